@@ -1,0 +1,51 @@
+-- What a row of questions that is passed says, and what holds of what passes it. Assumes nothing.
+use Prim.Native.Nat.{ℕ}
+use mathlib.Core.Path.{_≡_, refl}
+use mathlib.Core.Bool.{Bool, true, false, _&&_, cond}
+use native.Mathlib.Omega.{arith}
+use Rattle.rules.specs.Asked.{Asked, passed, refused, _else_, _>>=_, _>>_}
+
+-- a row that is passed has a yes at each question
+pub first-passed : (t : Bool) (n : ℕ) (x : Asked (Unit {0})) → ((t else n) >> x) ≡ passed tt → (t ≡ true) × (x ≡ passed tt)
+unfolding _else_ _>>_
+first-passed true n x e = (refl, e)
+first-passed false n x e = let z : _≡_ {A = ℕ} 0 1 = cc in absurd (omega arith)
+
+pub last-passed : (t : Bool) (n : ℕ) → (t else n) ≡ passed tt → t ≡ true
+unfolding _else_
+last-passed true n e = refl
+last-passed false n e = let z : _≡_ {A = ℕ} 0 1 = cc in absurd (omega arith)
+
+pub and-true : (a b : Bool) → (a && b) ≡ true → (a ≡ true) × (b ≡ true)
+and-true true b e = (refl, e)
+and-true false b e = let z : _≡_ {A = ℕ} 0 1 = cc in absurd (omega arith)
+
+-- ---- what holds of what passes
+
+module _ {A : Type 0} (P : A → Type 0) where
+  unfoldable pub Holds : Asked A → Type 0
+  Holds (passed a) = P a
+  Holds (refused n) = Unit {0}
+
+  pub asked : (t : Bool) (n : ℕ) (x : Asked A) → (t ≡ true → Holds x) → Holds ((t else n) >> x)
+  unfolding Holds _else_ _>>_
+  asked true n x h = h refl
+  asked false n x h = tt
+
+  pub after : (y : Asked (Unit {0})) (x : Asked A) → (y ≡ passed tt → Holds x) → Holds (y >> x)
+  unfolding Holds _>>_
+  after (passed u) x h = h refl
+  after (refused n) x h = tt
+
+  pub bound : {B : Type 0} (y : Asked B) (f : B → Asked A) → ((b : B) → y ≡ passed b → Holds (f b)) → Holds (y >>= f)
+  unfolding Holds _>>=_
+  bound (passed b) f h = h b refl
+  bound (refused n) f h = tt
+
+  pub held : (y : Asked A) (a : A) → Holds y → y ≡ passed a → P a
+  unfolding Holds
+  held y a h e = rw e at h
+
+  pub either : (t : Bool) (x y : Asked A) → Holds x → Holds y → Holds (cond t x y)
+  either true x y h k = h
+  either false x y h k = k

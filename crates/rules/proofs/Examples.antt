@@ -1,0 +1,58 @@
+-- The marked examples of document 01 as one table, and its printed walk. Assumes nothing.
+use mathlib.Core.Path.{_≡_, refl}
+use mathlib.Core.List.{[], _∷_}
+use Rattle.values.specs.declared.Value.the-variants.{Int}
+use Rattle.rules.specs.declared.Decision.the-variants.{Ordinary}
+use Rattle.rules.specs.declared.End.the-variants as End
+use Rattle.rules.specs.Fetch.{aligned}
+use Rattle.rules.specs.Step.{update}
+use Rattle.rules.specs.Run.{ends}
+use Rattle.rules.proofs.Given.{lent, state, decided, ran, on, leaves}
+
+-- ---- marked examples for the key
+
+pub record Marked : Type 0 where
+  pub idiv-minimum : on 108 (0x80000000 ∷ 0xffffffff ∷ []) ≡ leaves (0x80000000 ∷ [])
+  pub irem-minimum : on 112 (0x80000000 ∷ 0xffffffff ∷ []) ≡ leaves (0 ∷ [])
+  pub iinc-255 : decided (lent (132 ∷ 0 ∷ 255 ∷ 0 ∷ []) [] []) (state 0 1 0 0 0) (0 ∷ []) ≡ Ordinary (update 3 0 0 1 (0xffffffff ∷ []))
+  pub lcmp-minimum : on 148 (0 ∷ 0x80000000 ∷ 1 ∷ 0 ∷ []) ≡ leaves (0xffffffff ∷ [])
+  pub f2i-large : on 139 (0x4f000000 ∷ []) ≡ leaves (0x7fffffff ∷ [])
+  pub f2i-nan : on 139 (0x7fc00000 ∷ []) ≡ leaves (0 ∷ [])
+  pub i2f-16777217 : on 134 (16777217 ∷ []) ≡ leaves (0x4b800000 ∷ [])
+  pub i2f-16777219 : on 134 (16777219 ∷ []) ≡ leaves (0x4b800002 ∷ [])
+  pub l2d-odd : on 138 (1 ∷ 0x00200000 ∷ []) ≡ leaves (0 ∷ 0x43400000 ∷ [])
+  pub d2f-tie : on 144 (0x10000000 ∷ 0x3ff00000 ∷ []) ≡ leaves (0x3f800000 ∷ [])
+  pub ishl-33 : on 120 (1 ∷ 33 ∷ []) ≡ leaves (2 ∷ [])
+  pub dup2-x2 : on 94 (1 ∷ 2 ∷ 3 ∷ 4 ∷ []) ≡ leaves (3 ∷ 4 ∷ 1 ∷ 2 ∷ 3 ∷ 4 ∷ [])
+  pub switch-at-0 : aligned 0 ≡ 4
+  pub switch-at-3 : aligned 3 ≡ 4
+  pub switch-at-4 : aligned 4 ≡ 8
+  pub i2b-128 : on 145 (128 ∷ []) ≡ leaves (0xffffff80 ∷ [])
+
+pub marked : Marked
+unfolding decided on
+marked =
+    record {
+      idiv-minimum = refl;
+      irem-minimum = refl;
+      iinc-255 = refl;
+      lcmp-minimum = refl;
+      f2i-large = refl;
+      f2i-nan = refl;
+      i2f-16777217 = refl;
+      i2f-16777219 = refl;
+      l2d-odd = refl;
+      d2f-tie = refl;
+      ishl-33 = refl;
+      dup2-x2 = refl;
+      switch-at-0 = refl;
+      switch-at-3 = refl;
+      switch-at-4 = refl;
+      i2b-128 = refl;
+    }
+
+-- ---- the printed walk: 3 + 4, returned after three ordinary steps
+
+pub printed : ran (lent (6 ∷ 7 ∷ 0x60 ∷ 0xac ∷ []) [] []) 1600 (state 2 0 0 0 0) (0 ∷ 0 ∷ []) ≡ ends (state 2 0 3 1 0) (7 ∷ 4 ∷ []) 3 (End.Return (Int 7))
+unfolding ran
+printed = refl

@@ -1,0 +1,144 @@
+-- What every ordinary step keeps: all that the theorem on the list of presses asks of the 164 instructions. Assumes nothing.
+use Prim.Native.Nat.{ℕ, zero, suc, _+_, _≤_, _<_}
+use mathlib.Core.Path.{_≡_}
+use mathlib.Core.Bool.{true, cond}
+use mathlib.Core.List.{List, []}
+use mathlib.Core.Option.{Option, none, some}
+use native.Mathlib.Omega.{arith}
+use lib.Dec.{leb, eqb}
+use lib.ListN.{length}
+use lib.IntN.{ℤ, pos, negsuc}
+use borrow.Author.Tests.{ltb-true, leb-true}
+use Rattle.values.specs.Kinds.{Kind, places, placesOf}
+use Rattle.rules.specs.declared.State.{State}
+use Rattle.rules.specs.declared.Update.{Update}
+use Rattle.rules.specs.declared.Decision.{Decision}
+use Rattle.rules.specs.declared.Decision.the-variants.{Ordinary, Return, Throw, Refused}
+use Rattle.rules.specs.Asked.{Asked, passed, refused}
+use Rattle.rules.specs.Forms.{Row, Format, alone, implied, byte, short, index, index2, index-const, branch, branch4, table, pairs, widened, Result, pushes, stores, divides, branches, returns}
+use Rattle.rules.specs.Instructions.{rowOf}
+use Rattle.rules.specs.Fetch.{Instruction, u8, core, coreRow, wideAsked, tableAsked, lookupAsked, byFormat, fetched}
+use Rattle.rules.specs.Questions.{Lent, pushed, localsBelow, frameAsked, needsAsked}
+use Rattle.rules.specs.Step.{base, firstPlace, inside, ordinary, following, target, outcome, decision, decideOf}
+use Rattle.rules.proofs.Asked.{Holds, asked, after, bound, held, either, and-true}
+use Rattle.rules.proofs.Rows.{OfRow, small, small-row, few-pushed, OneLocal, no-local, one-local, one-named}
+use Rattle.rules.proofs.Questions.{Framed, framed, Needed, needed}
+use Rattle.rules.proofs.Step.{result}
+
+pub record Legal (l : Lent) (s : State) (slots : List ℕ) (u : Update) : Type 0 where
+  pub frame-there : Framed l s slots
+  pub new-pc : u .pc < length (l .code)
+  pub new-depth : u .depth ≤ s .«max_stack»
+  pub few : u .many ≤ 6
+  pub within : u .first + u .many ≤ s .«max_locals» + s .«max_stack»
+
+abbrev pub IfOrdinary : (Update → Type 0) → Decision → Type 0
+IfOrdinary P (Ordinary u) = P u
+IfOrdinary P (Return v) = Unit {0}
+IfOrdinary P Throw = Unit {0}
+IfOrdinary P (Refused n) = Unit {0}
+
+-- ---- each instruction that is fetched is of a row of the table
+
+Small : Instruction → Type 0
+Small i = small (i .rule) ≡ true
+
+SmallRow : Row → Type 0
+SmallRow r = small (r .rule) ≡ true
+
+small-core : (o : Option Row) → OfRow small (λ r. true) o → Holds SmallRow (coreRow o)
+unfolding OfRow Holds SmallRow
+small-core none h = tt
+small-core (some r) h = h
+
+core-is-small : (n : ℕ) (r : Row) → core n ≡ passed r → small (r .rule) ≡ true
+unfolding SmallRow
+core-is-small n r e = held SmallRow (core n) r (small-core (rowOf n) (small-row n)) e
+
+module _ (code : List ℕ) (pc : ℕ) where
+  format-small : (r : Row) → small (r .rule) ≡ true → (f : Format) → Holds Small (byFormat code pc r f)
+  unfolding Small Holds wideAsked tableAsked lookupAsked
+  format-small r h alone = asked Small _ 5 _ (λ _. h)
+  format-small r h (implied n) = asked Small _ 5 _ (λ _. h)
+  format-small r h byte = asked Small _ 5 _ (λ _. h)
+  format-small r h short = asked Small _ 5 _ (λ _. h)
+  format-small r h index = asked Small _ 5 _ (λ _. h)
+  format-small r h index2 = asked Small _ 5 _ (λ _. h)
+  format-small r h index-const = asked Small _ 5 _ (λ _. h)
+  format-small r h branch = asked Small _ 5 _ (λ _. h)
+  format-small r h branch4 = asked Small _ 5 _ (λ _. h)
+  format-small r h table = asked Small _ 5 _ (λ _. asked Small _ 6 _ (λ _. asked Small _ 5 _ (λ _. h)))
+  format-small r h pairs = asked Small _ 5 _ (λ _. asked Small _ 6 _ (λ _. asked Small _ 5 _ (λ _. asked Small _ 6 _ (λ _. h))))
+  format-small r h widened = asked Small _ 5 _ (λ _. asked Small _ 4 _ (λ _. bound Small (core (u8 code (pc + 1))) _ (λ q e.
+      either Small (eqb (u8 code (pc + 1)) 132) _ _ (asked Small _ 5 _ (λ _. core-is-small _ q e)) (asked Small _ 5 _ (λ _. core-is-small _ q e)))))
+
+  fetched-small : Holds Small (fetched code pc)
+  unfolding fetched
+  fetched-small = bound Small (core (u8 code pc)) _ (λ r e. format-small r (core-is-small _ r e) (r .format))
+
+-- ---- an ordinary step
+
+module _ (l : Lent) (s : State) (slots : List ℕ) where
+  Fine : Decision → Type 0
+  Fine d = IfOrdinary (Legal l s slots) d
+
+  decision-fine : (x : Asked Decision) → Holds Fine x → Fine (decision x)
+  unfolding Holds Fine
+  decision-fine (passed d) h = h
+  decision-fine (refused n) h = tt
+
+  -- where nothing is written the first place is 0
+  placed : (at n limit : ℕ) → at + n ≤ limit → firstPlace at n + n ≤ limit
+  placed at zero limit h = omega arith
+  placed at (suc n) limit h = h
+
+  InCode : ℕ → Type 0
+  InCode p = p < length (l .code)
+
+  inside-code : (to : ℤ) → Holds InCode (inside (l .code) to)
+  unfolding Holds InCode
+  inside-code (pos k) = asked InCode _ 11 _ (λ t. ltb-true k (length (l .code)) t)
+  inside-code (negsuc k) = tt
+
+  module _ (f : Framed l s slots) (i : Instruction) (small : Small i) (n : Needed l s i) where
+    ordinary-fine : (to : ℤ) (at many : ℕ) (ws : List ℕ) → many ≤ 6 → firstPlace at many + many ≤ s .«max_locals» + s .«max_stack» → Holds Fine (ordinary l s i to at many ws)
+    unfolding Holds Fine InCode
+    ordinary-fine to at many ws h w =
+        bound Fine (inside (l .code) to) _ (λ p e. record {
+          frame-there = f;
+          new-pc = held InCode (inside (l .code) to) p (inside-code to) e;
+          new-depth = n .fits;
+          few = h;
+          within = w;
+        })
+
+    pushed-fine : (ws : List ℕ) → Holds Fine (ordinary l s i (following s i) (base s i) (pushed i) ws)
+    unfolding Small
+    pushed-fine ws =
+        let p = n .pops in
+        let q = n .fits in
+        ordinary-fine (following s i) (base s i) (pushed i) ws (few-pushed (i .rule) small) (placed (base s i) (pushed i) _ (omega arith))
+
+    stored-fine : (ks : List Kind) → OneLocal ks → localsBelow (s .«max_locals») (i .operand .index) ks ≡ true → (ws : List ℕ)
+        → Holds Fine (ordinary l s i (following s i) (i .operand .index) (placesOf ks) ws)
+    stored-fine _ no-local b ws = ordinary-fine (following s i) (i .operand .index) 0 ws (omega arith) (omega arith)
+    stored-fine _ (one-local k h) b ws =
+        let c = leb-true (i .operand .index + places k) (s .«max_locals») (and-true (leb (i .operand .index + places k) (s .«max_locals»)) true b .0) in
+        ordinary-fine (following s i) (i .operand .index) (places k + 0) ws (omega arith) (placed (i .operand .index) (places k + 0) _ (omega arith))
+
+    outcome-fine : (r : Result) → Holds Fine (outcome l s i r)
+    unfolding Holds Fine Small
+    outcome-fine (pushes ws) = pushed-fine ws
+    outcome-fine (stores ws) = stored-fine (i .rule .locals) (one-named (i .rule) small) (n .local-there) ws
+    outcome-fine (divides by ws) = either Fine (eqb by 0) _ _ tt (pushed-fine ws)
+    outcome-fine (branches t z) = ordinary-fine (cond t (target s z) (following s i)) 0 0 [] (omega arith) (omega arith)
+    outcome-fine (returns v) = tt
+
+  -- THE LAW: an ordinary step is legal
+  pub decide-legal : IfOrdinary (Legal l s slots) (decideOf l s slots)
+  unfolding decideOf Fine
+  decide-legal = decision-fine _
+      (after Fine (frameAsked l s slots) _ (λ e1.
+      bound Fine (fetched (l .code) (s .pc)) _ (λ i e2.
+      after Fine (needsAsked l s i) _ (λ e3.
+      outcome-fine (framed l s slots e1) i (held Small (fetched (l .code) (s .pc)) i (fetched-small (l .code) (s .pc)) e2) (needed l s i e3) (result l s slots i)))))

@@ -1,0 +1,13 @@
+-- Laws that other crates cite
+pub mod Asked
+pub mod Rows
+pub mod Questions
+pub mod Step
+pub mod Legal
+-- Examples, which only the checker reads
+mod Given
+mod Examples
+mod Shapes
+mod Facts
+mod Refusals
+mod Walks

@@ -1,0 +1,149 @@
+-- Questions 1 to 9 one by one: what a yes at all of them says, and the number that the first no gives. Assumes nothing.
+use Prim.Native.Nat.{ℕ, _+_, _-_, _≤_, _<_}
+use mathlib.Core.Path.{_≡_}
+use mathlib.Core.Bool.{true, false}
+use mathlib.Core.List.{List}
+use mathlib.Core.Option.{none, some}
+use lib.ListN.{length}
+use borrow.Author.Tests.{lt-ltb, le-ltb, le-leb, lt-leb, eq-eqb, ne-eqb, ltb-true, leb-true, eqb-true}
+use Rattle.rules.specs.declared.State.{State}
+use Rattle.rules.specs.Asked.{passed, refused, _else_, _>>_, _>>=_}
+use Rattle.rules.specs.Forms.{Row, Operand}
+use Rattle.rules.specs.Instructions.{rowOf}
+use Rattle.rules.specs.Fetch.{Instruction, u8, sized, byFormat, fetched}
+use Rattle.rules.specs.Questions.{Lent, popped, pushed, localsBelow, constantThere, frameAsked, needsAsked}
+use Rattle.rules.proofs.Asked.{first-passed, last-passed}
+
+-- ---- questions 1 to 3
+
+pub record Framed (l : Lent) (s : State) (slots : List ℕ) : Type 0 where
+  pub paired : length (l .kinds) ≡ length (l .words)
+  pub pool : length (l .kinds) ≤ 65536
+  pub room : s .«max_locals» + s .«max_stack» ≤ length slots
+  pub some-code : 1 ≤ length (l .code)
+  pub short-code : length (l .code) ≤ 65535
+  pub in-code : s .pc < length (l .code)
+  pub deep : s .depth ≤ s .«max_stack»
+
+module _ (l : Lent) (s : State) (slots : List ℕ) where
+  pub framed : frameAsked l s slots ≡ passed tt → Framed l s slots
+  unfolding frameAsked
+  framed e =
+      let a = first-passed _ 1 _ e in
+      let b = first-passed _ 1 _ (a .1) in
+      let c = first-passed _ 1 _ (b .1) in
+      let d = first-passed _ 2 _ (c .1) in
+      let f = first-passed _ 2 _ (d .1) in
+      let g = first-passed _ 2 _ (f .1) in
+      record {
+        paired = eqb-true _ _ (a .0);
+        pool = leb-true _ _ (b .0);
+        room = leb-true _ _ (c .0);
+        some-code = leb-true _ _ (d .0);
+        short-code = leb-true _ _ (f .0);
+        in-code = ltb-true _ _ (g .0);
+        deep = leb-true _ _ (last-passed _ 3 (g .1));
+      }
+
+  pub frame-passed : Framed l s slots → frameAsked l s slots ≡ passed tt
+  unfolding frameAsked _else_ _>>_
+  frame-passed f = simp (eq-eqb _ _ (f .paired), le-leb _ _ (f .pool), le-leb _ _ (f .room), le-leb _ _ (f .some-code), le-leb _ _ (f .short-code), lt-ltb _ _ (f .in-code), le-leb _ _ (f .deep))
+
+  -- 1
+  pub unpaired : (length (l .kinds) ≡ length (l .words) → ⊥) → frameAsked l s slots ≡ refused 1
+  unfolding frameAsked _else_ _>>_
+  unpaired h = simp (ne-eqb _ _ h)
+
+  module _ (paired : length (l .kinds) ≡ length (l .words)) where
+    pub long-pool : 65536 < length (l .kinds) → frameAsked l s slots ≡ refused 1
+    unfolding frameAsked _else_ _>>_
+    long-pool h = simp (eq-eqb _ _ paired, lt-leb _ _ h)
+
+    module _ (pool : length (l .kinds) ≤ 65536) where
+      pub no-room : length slots < s .«max_locals» + s .«max_stack» → frameAsked l s slots ≡ refused 1
+      unfolding frameAsked _else_ _>>_
+      no-room h = simp (eq-eqb _ _ paired, le-leb _ _ pool, lt-leb _ _ h)
+
+      -- 2
+      module _ (room : s .«max_locals» + s .«max_stack» ≤ length slots) where
+        pub no-code : length (l .code) < 1 → frameAsked l s slots ≡ refused 2
+        unfolding frameAsked _else_ _>>_
+        no-code h = simp (eq-eqb _ _ paired, le-leb _ _ pool, le-leb _ _ room, lt-leb _ _ h)
+
+        module _ (some-code : 1 ≤ length (l .code)) where
+          pub long-code : 65535 < length (l .code) → frameAsked l s slots ≡ refused 2
+          unfolding frameAsked _else_ _>>_
+          long-code h = simp (eq-eqb _ _ paired, le-leb _ _ pool, le-leb _ _ room, le-leb _ _ some-code, lt-leb _ _ h)
+
+          module _ (short-code : length (l .code) ≤ 65535) where
+            pub outside : length (l .code) ≤ s .pc → frameAsked l s slots ≡ refused 2
+            unfolding frameAsked _else_ _>>_
+            outside h = simp (eq-eqb _ _ paired, le-leb _ _ pool, le-leb _ _ room, le-leb _ _ some-code, le-leb _ _ short-code, le-ltb _ _ h)
+
+            -- 3
+            pub too-deep : s .pc < length (l .code) → s .«max_stack» < s .depth → frameAsked l s slots ≡ refused 3
+            unfolding frameAsked _else_ _>>_
+            too-deep i h = simp (eq-eqb _ _ paired, le-leb _ _ pool, le-leb _ _ room, le-leb _ _ some-code, le-leb _ _ short-code, lt-ltb _ _ i, lt-leb _ _ h)
+
+-- ---- questions 4 and 5
+
+module _ (code : List ℕ) (pc : ℕ) where
+  pub not-core : rowOf (u8 code pc) ≡ none → fetched code pc ≡ refused 4
+  unfolding fetched _>>=_
+  not-core e = rw e
+
+  pub of-core : (r : Row) → rowOf (u8 code pc) ≡ some r → fetched code pc ≡ byFormat code pc r (r .format)
+  unfolding fetched _>>=_
+  of-core r e = rw e
+
+  pub operands-there : (r : Row) (n : ℕ) (o : Operand) → pc + n ≤ length code → sized code pc r n o ≡ passed (record { rule = r .rule; size = n; operand = o })
+  unfolding _else_ _>>_
+  operands-there r n o h = simp (le-leb _ _ h)
+
+  pub operands-missing : (r : Row) (n : ℕ) (o : Operand) → length code < pc + n → sized code pc r n o ≡ refused 5
+  unfolding _else_ _>>_
+  operands-missing r n o h = simp (lt-leb _ _ h)
+
+-- ---- questions 6 to 9
+
+pub record Needed (l : Lent) (s : State) (i : Instruction) : Type 0 where
+  pub pops : popped i ≤ s .depth
+  pub fits : s .depth - popped i + pushed i ≤ s .«max_stack»
+  pub local-there : localsBelow (s .«max_locals») (i .operand .index) (i .rule .locals) ≡ true
+  pub constant-there : constantThere (l .kinds) (i .operand .index) (i .rule .constants) ≡ true
+
+module _ (l : Lent) (s : State) (i : Instruction) where
+  pub needed : needsAsked l s i ≡ passed tt → Needed l s i
+  unfolding needsAsked
+  needed e =
+      let a = first-passed _ 7 _ e in
+      let b = first-passed _ 8 _ (a .1) in
+      let c = first-passed _ 9 _ (b .1) in
+      record { pops = leb-true _ _ (a .0); fits = leb-true _ _ (b .0); local-there = c .0; constant-there = last-passed _ 10 (c .1) }
+
+  pub needs-passed : Needed l s i → needsAsked l s i ≡ passed tt
+  unfolding needsAsked _else_ _>>_
+  needs-passed n = simp (le-leb _ _ (n .pops), le-leb _ _ (n .fits), n .local-there, n .constant-there)
+
+  -- 6
+  pub pops-missing : s .depth < popped i → needsAsked l s i ≡ refused 7
+  unfolding needsAsked _else_ _>>_
+  pops-missing h = simp (lt-leb _ _ h)
+
+  module _ (pops : popped i ≤ s .depth) where
+    -- 7
+    pub overflows : s .«max_stack» < s .depth - popped i + pushed i → needsAsked l s i ≡ refused 8
+    unfolding needsAsked _else_ _>>_
+    overflows h = simp (le-leb _ _ pops, lt-leb _ _ h)
+
+    module _ (fits : s .depth - popped i + pushed i ≤ s .«max_stack») where
+      -- 8
+      pub local-missing : localsBelow (s .«max_locals») (i .operand .index) (i .rule .locals) ≡ false → needsAsked l s i ≡ refused 9
+      unfolding needsAsked _else_ _>>_
+      local-missing h = simp (le-leb _ _ pops, le-leb _ _ fits, h)
+
+      -- 9
+      pub constant-missing : localsBelow (s .«max_locals») (i .operand .index) (i .rule .locals) ≡ true
+          → constantThere (l .kinds) (i .operand .index) (i .rule .constants) ≡ false → needsAsked l s i ≡ refused 10
+      unfolding needsAsked _else_ _>>_
+      constant-missing k h = simp (le-leb _ _ pops, le-leb _ _ fits, k, h)

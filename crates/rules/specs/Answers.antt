@@ -1,0 +1,42 @@
+-- What each answer says, case by case: a number, and the value that goes with it as two words. Document 01's numbers are those of the refusals, 1 to 99;
+-- the others are the exported functions'. Assumes nothing.
+use Prim.Native.Nat.{ℕ, _/_, _%_, _^_}
+use Rattle.values.specs.declared.Value.{Value}
+use Rattle.values.specs.declared.Value.the-variants.{Void, Int, Float, Reference, Long, Double}
+use Rattle.rules.specs.declared.Decision.{Decision}
+use Rattle.rules.specs.declared.Decision.the-variants as Decision
+use Rattle.rules.specs.declared.End.{End}
+use Rattle.rules.specs.declared.End.the-variants as End
+
+-- `low` and `high` are the value's words, 0 where there is none
+pub record Answer : Type 0 where
+  pub number : ℕ
+  pub low : ℕ
+  pub high : ℕ
+
+-- a number and the bits of a value
+abbrev pub answer : ℕ → ℕ → Answer
+answer n v = record { number = n; low = v % 2 ^ 32; high = v / 2 ^ 32 }
+
+-- a return: int, float, ref, long, double, void
+abbrev pub valueAnswer : Value → Answer
+valueAnswer (Int v) = answer 101 v
+valueAnswer (Float v) = answer 102 v
+valueAnswer (Reference v) = answer 103 v
+valueAnswer (Long v) = answer 104 v
+valueAnswer (Double v) = answer 105 v
+valueAnswer Void = answer 106 0
+
+-- a step: ordinary, a return, an ArithmeticException, a refusal
+abbrev pub decisionAnswer : Decision → Answer
+decisionAnswer (Decision.Ordinary u) = answer 0 0
+decisionAnswer (Decision.Return v) = valueAnswer v
+decisionAnswer Decision.Throw = answer 110 0
+decisionAnswer (Decision.Refused n) = answer n 0
+
+-- a run: stopped, or as the step at which it ended
+abbrev pub endAnswer : End → Answer
+endAnswer End.Stopped = answer 120 0
+endAnswer (End.Return v) = valueAnswer v
+endAnswer End.Throw = answer 110 0
+endAnswer (End.Refused n) = answer n 0

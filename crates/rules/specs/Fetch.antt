@@ -1,0 +1,144 @@
+-- The instruction at an offset of the code: questions 4 and 5 of document 01, for every format, WIDE and both switches. Assumes nothing.
+use Prim.Native.Nat.{ℕ, zero, suc, _+_, _-_, _*_, _/_}
+use mathlib.Core.Bool.{Bool, true, _&&_, _||_, cond}
+use mathlib.Core.List.{List, [], _∷_}
+use mathlib.Core.Option.{Option, none, some}
+use lib.IntN.{ℤ, pos, _+ℤ_, _-ℤ_, natAbs}
+use lib.ListN.{length, getD}
+use Rattle.values.specs.Integers.{signed, _<ᶻ_, _≤ᶻ_}
+use Rattle.rules.specs.Asked.{Asked, passed, refused, _else_, _>>=_, _>>_, _≤ⁿ_, _<ⁿ_, _=ⁿ_}
+use Rattle.rules.specs.Forms.{Row, Rule, Operand, Format, alone, implied, byte, short, index, index2, index-const, branch, branch4, table, pairs, widened}
+use Rattle.rules.specs.Instructions.{rowOf}
+
+-- ---- the bytes of the code, big-endian; past its end they read as 0, and question 5 comes before any use of that
+
+abbrev pub u8 : List ℕ → ℕ → ℕ
+u8 code at = getD code at 0
+
+abbrev pub u16 : List ℕ → ℕ → ℕ
+u16 code at = u8 code at * 256 + u8 code (at + 1)
+
+abbrev pub u32 : List ℕ → ℕ → ℕ
+u32 code at = u16 code at * 65536 + u16 code (at + 2)
+
+abbrev pub s8 : List ℕ → ℕ → ℤ
+s8 code at = signed 7 (u8 code at)
+
+abbrev pub s16 : List ℕ → ℕ → ℤ
+s16 code at = signed 15 (u16 code at)
+
+abbrev pub s32 : List ℕ → ℕ → ℤ
+s32 code at = signed 31 (u32 code at)
+
+-- ---- an instruction: its rule, its length in bytes, its operands
+
+pub record Instruction : Type 0 where
+  pub rule : Rule
+  pub size : ℕ
+  pub operand : Operand
+
+abbrev pub operands : ℕ → ℤ → List (ℤ × ℤ) → Operand
+operands x c ps = record { index = x; constant = c; pairs = ps }
+
+abbrev pub coreRow : Option Row → Asked Row
+coreRow none = refused 4
+coreRow (some r) = passed r
+
+-- 4. Is the opcode core?
+abbrev pub core : ℕ → Asked Row
+core n = coreRow (rowOf n)
+
+-- 5. Are its operand bytes in the code? The instruction is n bytes long
+abbrev pub sized : List ℕ → ℕ → Row → ℕ → Operand → Asked Instruction
+sized code pc r n o = do
+  pc + n ≤ⁿ length code else 5
+  passed (record { rule = r .rule; size = n; operand = o })
+
+-- ---- WIDE
+
+-- WIDE takes 21–25, 54–58 and 132
+abbrev pub widens : ℕ → Bool
+widens n = (21 ≤ⁿ n) && (n ≤ⁿ 25) || (54 ≤ⁿ n) && (n ≤ⁿ 58) || (n =ⁿ 132)
+
+-- second byte there? 5. Allowed? 4. The rest there? 5
+unfoldable pub wideAsked : List ℕ → ℕ → Asked Instruction
+wideAsked code pc = do
+  pc + 1 <ⁿ length code else 5
+  widens (u8 code (pc + 1)) else 4
+  r ← core (u8 code (pc + 1))
+  cond (u8 code (pc + 1) =ⁿ 132)
+      (sized code pc r 6 (operands (u16 code (pc + 2)) (s16 code (pc + 4)) []))
+      (sized code pc r 4 (operands (u16 code (pc + 2)) (pos 0) []))
+
+-- ---- switches
+
+-- a switch's operands begin at the next multiple of 4 after the opcode
+abbrev pub aligned : ℕ → ℕ
+aligned pc = (pc / 4 + 1) * 4
+
+-- n offsets from `at` on, for the keys from `low` on
+unfoldable pub offsetsFrom : List ℕ → ℕ → ℤ → ℕ → List (ℤ × ℤ)
+offsetsFrom code at low zero = []
+offsetsFrom code at low (suc n) = (low, s32 code at) ∷ offsetsFrom code (at + 4) (low +ℤ pos 1) n
+
+-- n pairs of a key and an offset from `at` on
+unfoldable pub pairsFrom : List ℕ → ℕ → ℕ → List (ℤ × ℤ)
+pairsFrom code at zero = []
+pairsFrom code at (suc n) = (s32 code at, s32 code (at + 4)) ∷ pairsFrom code (at + 8) n
+
+abbrev pub risingFrom : ℤ → List (ℤ × ℤ) → Bool
+risingFrom k [] = true
+risingFrom k (p ∷ ps) = (k <ᶻ p .0) && risingFrom (p .0) ps
+
+abbrev pub rising : List (ℤ × ℤ) → Bool
+rising [] = true
+rising (p ∷ ps) = risingFrom (p .0) ps
+
+-- TABLESWITCH: default, low, high, then an offset for each key from low to high
+unfoldable pub tableAsked : List ℕ → ℕ → Row → Asked Instruction
+tableAsked code pc r =
+    let at = aligned pc in
+    let low = s32 code (at + 4) in
+    let high = s32 code (at + 8) in
+    let n = natAbs (high -ℤ low) + 1 in
+    let end = at + 12 + 4 * n in do
+      -- fixed fields in the code? 5. low ≤ high? 6. Table in the code? 5
+      at + 12 ≤ⁿ length code else 5
+      low ≤ᶻ high else 6
+      end ≤ⁿ length code else 5
+      passed (record { rule = r .rule; size = end - pc; operand = operands 0 (s32 code at) (offsetsFrom code (at + 12) low n) })
+
+-- LOOKUPSWITCH: default, npairs, then npairs pairs of a key and an offset
+unfoldable pub lookupAsked : List ℕ → ℕ → Row → Asked Instruction
+lookupAsked code pc r =
+    let at = aligned pc in
+    let n = natAbs (s32 code (at + 4)) in
+    let end = at + 8 + 8 * n in do
+      -- fixed fields in the code? 5. Pair count not negative? 6. Table in the code? 5. Keys strictly rising? 6
+      at + 8 ≤ⁿ length code else 5
+      pos 0 ≤ᶻ s32 code (at + 4) else 6
+      end ≤ⁿ length code else 5
+      rising (pairsFrom code (at + 8) n) else 6
+      passed (record { rule = r .rule; size = end - pc; operand = operands 0 (s32 code at) (pairsFrom code (at + 8) n) })
+
+-- ---- every format
+
+abbrev pub byFormat : List ℕ → ℕ → Row → Format → Asked Instruction
+byFormat code pc r alone = sized code pc r 1 (operands 0 (pos 0) [])
+byFormat code pc r (implied n) = sized code pc r 1 (operands n (pos 0) [])
+byFormat code pc r byte = sized code pc r 2 (operands 0 (s8 code (pc + 1)) [])
+byFormat code pc r short = sized code pc r 3 (operands 0 (s16 code (pc + 1)) [])
+byFormat code pc r index = sized code pc r 2 (operands (u8 code (pc + 1)) (pos 0) [])
+byFormat code pc r index2 = sized code pc r 3 (operands (u16 code (pc + 1)) (pos 0) [])
+byFormat code pc r index-const = sized code pc r 3 (operands (u8 code (pc + 1)) (s8 code (pc + 2)) [])
+byFormat code pc r branch = sized code pc r 3 (operands 0 (s16 code (pc + 1)) [])
+byFormat code pc r branch4 = sized code pc r 5 (operands 0 (s32 code (pc + 1)) [])
+byFormat code pc r table = tableAsked code pc r
+byFormat code pc r pairs = lookupAsked code pc r
+byFormat code pc r widened = wideAsked code pc
+
+-- questions 4 and 5
+unfoldable pub fetched : List ℕ → ℕ → Asked Instruction
+fetched code pc = do
+  r ← core (u8 code pc)
+  byFormat code pc r (r .format)

@@ -1,0 +1,39 @@
+-- A run: at most budget ordinary steps, without history. Assumes nothing.
+use Prim.Native.Nat.{ℕ, zero, suc}
+use mathlib.Core.List.{List}
+use Rattle.rules.specs.declared.State.{State}
+use Rattle.rules.specs.declared.Decision.the-variants.{Ordinary, Return, Throw, Refused}
+use Rattle.rules.specs.declared.End.{End}
+use Rattle.rules.specs.declared.End.the-variants as End
+use Rattle.rules.specs.Asked.{Asked, passed, refused}
+use Rattle.rules.specs.Questions.{Lent, frameAsked}
+use Rattle.rules.specs.Step.{decideOf, moved, written}
+
+pub record Ran : Type 0 where
+  pub state : State
+  pub steps : ℕ
+  pub end : End
+  pub slots : List ℕ
+
+-- the state reached, with count 0
+abbrev pub ends : State → List ℕ → ℕ → End → Ran
+ends s slots n e = record { state = moved s (s .pc) (s .depth) 0; steps = n; end = e; slots = slots }
+
+-- n steps are taken already; with no budget left there is no further look
+unfoldable pub runFrom : Lent → ℕ → ℕ → State → List ℕ → Ran
+runFrom l zero n s slots = ends s slots n End.Stopped
+runFrom l (suc b) n s slots =
+    elim (decideOf l s slots) [
+      | Ordinary u ↦ runFrom l b (suc n) (moved s (u .pc) (u .depth) 0) (written u slots)
+      | Return v ↦ ends s slots n (End.Return v)
+      | Throw ↦ ends s slots n End.Throw
+      | Refused k ↦ ends s slots n (End.Refused k)
+    ]
+
+-- questions 1 to 3 come first, also with budget 0: refused there, it gives the state that it got
+abbrev pub runAsked : Lent → ℕ → State → List ℕ → Asked (Unit {0}) → Ran
+runAsked l budget s slots (passed t) = runFrom l budget 0 s slots
+runAsked l budget s slots (refused k) = record { state = s; steps = 0; end = End.Refused k; slots = slots }
+
+unfoldable pub runOf : Lent → ℕ → State → List ℕ → Ran
+runOf l budget s slots = runAsked l budget s slots (frameAsked l s slots)

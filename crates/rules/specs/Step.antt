@@ -1,0 +1,121 @@
+-- One step, decided before anything is written, with question 10; then taken, without history. Assumes nothing.
+use Prim.Native.Nat.{ℕ, zero, suc, _+_, _-_}
+use mathlib.Core.Bool.{cond}
+use mathlib.Core.List.{List, [], _∷_}
+use lib.IntN.{ℤ, pos, negsuc, _+ℤ_}
+use lib.ListN.{length, getD, take, drop}
+use lib.Seq.{paste}
+use Rattle.values.specs.Kinds.{placesOf}
+use Rattle.rules.specs.declared.State.{State}
+use Rattle.rules.specs.declared.Update.{Update}
+use Rattle.rules.specs.declared.Decision.{Decision}
+use Rattle.rules.specs.declared.Decision.the-variants.{Ordinary, Return, Throw, Refused}
+use Rattle.rules.specs.Asked.{Asked, passed, refused, _else_, _>>=_, _>>_, _<ⁿ_, _=ⁿ_}
+use Rattle.rules.specs.Forms.{Result, pushes, stores, divides, branches, returns, Source, stack, local, pool}
+use Rattle.rules.specs.Fetch.{Instruction, fetched}
+use Rattle.rules.specs.Questions.{Lent, popped, pushed, frameAsked, needsAsked}
+
+-- ---- the words that an instruction works on
+
+-- the words of the frame (document 01): all locals and stack places. The rules read these and no other slot
+abbrev pub frame : State → List ℕ → List ℕ
+frame s slots = take (s .«max_locals» + s .«max_stack») slots
+
+-- its first place on the stack, counted from the first local
+abbrev pub base : State → Instruction → ℕ
+base s i = s .«max_locals» + (s .depth - popped i)
+
+abbrev pub wordsAt : Source → Lent → State → List ℕ → Instruction → List ℕ
+wordsAt stack l s words i = take (popped i) (drop (base s i) words)
+wordsAt local l s words i = take (placesOf (i .rule .locals)) (drop (i .operand .index) words)
+wordsAt pool l s words i = take (pushed i) (drop (i .operand .index) (l .words))
+
+-- ---- what the step comes to
+
+-- nothing written: first place and how many are both 0
+abbrev pub firstPlace : ℕ → ℕ → ℕ
+firstPlace at zero = 0
+firstPlace at (suc n) = at
+
+-- n words written from place `at` on
+abbrev pub update : ℕ → ℕ → ℕ → ℕ → List ℕ → Update
+update pc depth at n ws =
+    record {
+      pc = pc;
+      depth = depth;
+      first = firstPlace at n;
+      many = n;
+      w0 = getD ws 0 0;
+      w1 = getD ws 1 0;
+      w2 = getD ws 2 0;
+      w3 = getD ws 3 0;
+      w4 = getD ws 4 0;
+      w5 = getD ws 5 0;
+    }
+
+-- 10. Is the next pc inside the code?
+abbrev pub inside : List ℕ → ℤ → Asked ℕ
+inside code (pos n) = do
+  n <ⁿ length code else 11
+  passed n
+inside code (negsuc n) = refused 11
+
+-- an ordinary step to an offset, with n words written from a place on
+abbrev pub ordinary : Lent → State → Instruction → ℤ → ℕ → ℕ → List ℕ → Asked Decision
+ordinary l s i to at n ws = do
+  pc ← inside (l .code) to
+  passed (Ordinary (update pc (s .depth - popped i + pushed i) at n ws))
+
+-- the offset of the next instruction, and the target of a branch, which is counted from the opcode
+abbrev pub following : State → Instruction → ℤ
+following s i = pos (s .pc + i .size)
+
+abbrev pub target : State → ℤ → ℤ
+target s z = pos (s .pc) +ℤ z
+
+-- all that it pushes, from its first place on the stack on; or the local stored. A return or a zero divisor ends before question 10
+abbrev pub outcome : Lent → State → Instruction → Result → Asked Decision
+outcome l s i (pushes ws) = ordinary l s i (following s i) (base s i) (pushed i) ws
+outcome l s i (stores ws) = ordinary l s i (following s i) (i .operand .index) (placesOf (i .rule .locals)) ws
+outcome l s i (divides by ws) = cond (by =ⁿ 0) (passed Throw) (ordinary l s i (following s i) (base s i) (pushed i) ws)
+outcome l s i (branches t z) = ordinary l s i (cond t (target s z) (following s i)) 0 0 []
+outcome l s i (returns v) = passed (Return v)
+
+abbrev pub decision : Asked Decision → Decision
+decision (passed d) = d
+decision (refused n) = Refused n
+
+-- questions 1 to 10 in their order, and what the instruction does
+unfoldable pub decideOf : Lent → State → List ℕ → Decision
+decideOf l s slots = decision (do
+  frameAsked l s slots
+  i ← fetched (l .code) (s .pc)
+  needsAsked l s i
+  outcome l s i (i .rule .does (i .operand) (wordsAt (i .rule .reads) l s (frame s slots) i)))
+
+-- ---- the step without history
+
+-- the state at another offset, depth and count
+abbrev pub moved : State → ℕ → ℕ → ℕ → State
+moved s pc depth count = record { «max_stack» = s .«max_stack»; «max_locals» = s .«max_locals»; pc = pc; depth = depth; count = count }
+
+abbrev pub updateWords : Update → List ℕ
+updateWords u = u .w0 ∷ u .w1 ∷ u .w2 ∷ u .w3 ∷ u .w4 ∷ u .w5 ∷ []
+
+abbrev pub written : Update → List ℕ → List ℕ
+written u slots = paste slots (u .first) (updateWords u) (u .many)
+
+pub record Stepped : Type 0 where
+  pub state : State
+  pub decision : Decision
+  pub slots : List ℕ
+
+-- an ordinary step gives count 0; an outcome or a refusal changes nothing
+abbrev pub stepBy : State → List ℕ → Decision → Stepped
+stepBy s slots (Ordinary u) = record { state = moved s (u .pc) (u .depth) 0; decision = Ordinary u; slots = written u slots }
+stepBy s slots (Return v) = record { state = s; decision = Return v; slots = slots }
+stepBy s slots Throw = record { state = s; decision = Throw; slots = slots }
+stepBy s slots (Refused n) = record { state = s; decision = Refused n; slots = slots }
+
+unfoldable pub stepOf : Lent → State → List ℕ → Stepped
+stepOf l s slots = stepBy s slots (decideOf l s slots)

@@ -1,0 +1,4 @@
+pub mod Kinds
+pub mod Integers
+pub mod Floats
+pub mod Words
