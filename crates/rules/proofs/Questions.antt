@@ -2,15 +2,17 @@
 use Prim.Native.Nat.{ℕ, _+_, _-_, _≤_, _<_}
 use mathlib.Core.Path.{_≡_}
 use mathlib.Core.Bool.{true, false}
-use mathlib.Core.List.{List}
+use mathlib.Core.List.{List, []}
 use mathlib.Core.Option.{none, some}
+use lib.IntN.{pos}
 use lib.ListN.{length}
 use borrow.Author.Tests.{lt-ltb, le-ltb, le-leb, lt-leb, eq-eqb, ne-eqb, ltb-true, leb-true, eqb-true}
+use Rattle.values.specs.Integers.{_≤ᶻ_}
 use Rattle.rules.specs.declared.State.{State}
 use Rattle.rules.specs.Asked.{passed, refused, _else_, _>>_, _>>=_}
 use Rattle.rules.specs.Forms.{Row, Operand}
 use Rattle.rules.specs.Instructions.{rowOf}
-use Rattle.rules.specs.Fetch.{Instruction, u8, sized, byFormat, fetched}
+use Rattle.rules.specs.Fetch.{Instruction, instruction, operands, u8, u16, s16, sized, widens, wideOpcode, wideAsked, aligned, lowKey, highKey, tableEnd, tableOperand, tableAsked, pairCount, keyPairs, pairsEnd, pairsOperand, rising, lookupAsked, byFormat, fetched}
 use Rattle.rules.specs.Questions.{Lent, popped, pushed, localsBelow, constantThere, frameAsked, needsAsked}
 use Rattle.rules.proofs.Asked.{first-passed, last-passed}
 
@@ -96,13 +98,76 @@ module _ (code : List ℕ) (pc : ℕ) where
   unfolding fetched _>>=_
   of-core r e = rw e
 
-  pub operands-there : (r : Row) (n : ℕ) (o : Operand) → pc + n ≤ length code → sized code pc r n o ≡ passed (record { rule = r .rule; size = n; operand = o })
+  pub operands-there : (r : Row) (n : ℕ) (o : Operand) → pc + n ≤ length code → sized code pc r n o ≡ passed (instruction r n o)
   unfolding _else_ _>>_
   operands-there r n o h = simp (le-leb _ _ h)
 
   pub operands-missing : (r : Row) (n : ℕ) (o : Operand) → length code < pc + n → sized code pc r n o ≡ refused 5
   unfolding _else_ _>>_
   operands-missing r n o h = simp (lt-leb _ _ h)
+
+  -- WIDE
+  pub wide-cut : length code ≤ pc + 1 → wideAsked code pc ≡ refused 5
+  unfolding wideAsked _else_ _>>_
+  wide-cut h = simp (le-ltb _ _ h)
+
+  module _ (there : pc + 1 < length code) where
+    pub wide-not-allowed : widens (wideOpcode code pc) ≡ false → wideAsked code pc ≡ refused 4
+    unfolding wideAsked _else_ _>>_
+    wide-not-allowed h = simp (lt-ltb _ _ there, h)
+
+    module _ (allowed : widens (wideOpcode code pc) ≡ true) (r : Row) (row : rowOf (wideOpcode code pc) ≡ some r) where
+      pub wide-iinc : wideOpcode code pc ≡ 132 → wideAsked code pc ≡ sized code pc r 6 (operands (u16 code (pc + 2)) (s16 code (pc + 4)) [])
+      unfolding wideAsked _else_ _>>_ _>>=_
+      wide-iinc h = rw (lt-ltb (pc + 1) (length code) there, allowed, row, eq-eqb (wideOpcode code pc) 132 h)
+
+      pub wide-local : (wideOpcode code pc ≡ 132 → ⊥) → wideAsked code pc ≡ sized code pc r 4 (operands (u16 code (pc + 2)) (pos 0) [])
+      unfolding wideAsked _else_ _>>_ _>>=_
+      wide-local h = rw (lt-ltb (pc + 1) (length code) there, allowed, row, ne-eqb (wideOpcode code pc) 132 h)
+
+  -- TABLESWITCH
+  module _ (r : Row) where
+    pub table-cut : length code < aligned pc + 12 → tableAsked code pc r ≡ refused 5
+    unfolding tableAsked _else_ _>>_
+    table-cut h = simp (lt-leb _ _ h)
+
+    module _ (fields : aligned pc + 12 ≤ length code) where
+      pub table-disordered : (lowKey code pc ≤ᶻ highKey code pc) ≡ false → tableAsked code pc r ≡ refused 6
+      unfolding tableAsked _else_ _>>_
+      table-disordered h = simp (le-leb _ _ fields, h)
+
+      module _ (ordered : (lowKey code pc ≤ᶻ highKey code pc) ≡ true) where
+        pub table-missing : length code < tableEnd code pc → tableAsked code pc r ≡ refused 5
+        unfolding tableAsked _else_ _>>_
+        table-missing h = simp (le-leb _ _ fields, ordered, lt-leb _ _ h)
+
+        pub table-there : tableEnd code pc ≤ length code → tableAsked code pc r ≡ passed (instruction r (tableEnd code pc - pc) (tableOperand code pc))
+        unfolding tableAsked _else_ _>>_
+        table-there h = simp (le-leb _ _ fields, ordered, le-leb _ _ h)
+
+    -- LOOKUPSWITCH
+    pub lookup-cut : length code < aligned pc + 8 → lookupAsked code pc r ≡ refused 5
+    unfolding lookupAsked _else_ _>>_
+    lookup-cut h = simp (lt-leb _ _ h)
+
+    module _ (fields : aligned pc + 8 ≤ length code) where
+      pub lookup-negative : (pos 0 ≤ᶻ pairCount code pc) ≡ false → lookupAsked code pc r ≡ refused 6
+      unfolding lookupAsked _else_ _>>_
+      lookup-negative h = simp (le-leb _ _ fields, h)
+
+      module _ (counted : (pos 0 ≤ᶻ pairCount code pc) ≡ true) where
+        pub lookup-missing : length code < pairsEnd code pc → lookupAsked code pc r ≡ refused 5
+        unfolding lookupAsked _else_ _>>_
+        lookup-missing h = simp (le-leb _ _ fields, counted, lt-leb _ _ h)
+
+        module _ (whole : pairsEnd code pc ≤ length code) where
+          pub lookup-unsorted : rising (keyPairs code pc) ≡ false → lookupAsked code pc r ≡ refused 6
+          unfolding lookupAsked _else_ _>>_
+          lookup-unsorted h = simp (le-leb _ _ fields, counted, le-leb _ _ whole, h)
+
+          pub lookup-there : rising (keyPairs code pc) ≡ true → lookupAsked code pc r ≡ passed (instruction r (pairsEnd code pc - pc) (pairsOperand code pc))
+          unfolding lookupAsked _else_ _>>_
+          lookup-there h = simp (le-leb _ _ fields, counted, le-leb _ _ whole, h)
 
 -- ---- questions 6 to 9
 

@@ -40,6 +40,9 @@ pub record Instruction : Type 0 where
 abbrev pub operands : ℕ → ℤ → List (ℤ × ℤ) → Operand
 operands x c ps = record { index = x; constant = c; pairs = ps }
 
+abbrev pub instruction : Row → ℕ → Operand → Instruction
+instruction r n o = record { rule = r .rule; size = n; operand = o }
+
 abbrev pub coreRow : Option Row → Asked Row
 coreRow none = refused 4
 coreRow (some r) = passed r
@@ -52,7 +55,7 @@ core n = coreRow (rowOf n)
 abbrev pub sized : List ℕ → ℕ → Row → ℕ → Operand → Asked Instruction
 sized code pc r n o = do
   pc + n ≤ⁿ length code else 5
-  passed (record { rule = r .rule; size = n; operand = o })
+  passed (instruction r n o)
 
 -- ---- WIDE
 
@@ -60,13 +63,16 @@ sized code pc r n o = do
 abbrev pub widens : ℕ → Bool
 widens n = (21 ≤ⁿ n) && (n ≤ⁿ 25) || (54 ≤ⁿ n) && (n ≤ⁿ 58) || (n =ⁿ 132)
 
+abbrev pub wideOpcode : List ℕ → ℕ → ℕ
+wideOpcode code pc = u8 code (pc + 1)
+
 -- second byte there? 5. Allowed? 4. The rest there? 5
 unfoldable pub wideAsked : List ℕ → ℕ → Asked Instruction
 wideAsked code pc = do
   pc + 1 <ⁿ length code else 5
-  widens (u8 code (pc + 1)) else 4
-  r ← core (u8 code (pc + 1))
-  cond (u8 code (pc + 1) =ⁿ 132)
+  widens (wideOpcode code pc) else 4
+  r ← core (wideOpcode code pc)
+  cond (wideOpcode code pc =ⁿ 132)
       (sized code pc r 6 (operands (u16 code (pc + 2)) (s16 code (pc + 4)) []))
       (sized code pc r 4 (operands (u16 code (pc + 2)) (pos 0) []))
 
@@ -95,31 +101,50 @@ rising [] = true
 rising (p ∷ ps) = risingFrom (p .0) ps
 
 -- TABLESWITCH: default, low, high, then an offset for each key from low to high
+abbrev pub lowKey : List ℕ → ℕ → ℤ
+lowKey code pc = s32 code (aligned pc + 4)
+
+abbrev pub highKey : List ℕ → ℕ → ℤ
+highKey code pc = s32 code (aligned pc + 8)
+
+abbrev pub keys : List ℕ → ℕ → ℕ
+keys code pc = natAbs (highKey code pc -ℤ lowKey code pc) + 1
+
+abbrev pub tableEnd : List ℕ → ℕ → ℕ
+tableEnd code pc = aligned pc + 12 + 4 * keys code pc
+
+abbrev pub tableOperand : List ℕ → ℕ → Operand
+tableOperand code pc = operands 0 (s32 code (aligned pc)) (offsetsFrom code (aligned pc + 12) (lowKey code pc) (keys code pc))
+
+-- fixed fields in the code? 5. low ≤ high? 6. Table in the code? 5
 unfoldable pub tableAsked : List ℕ → ℕ → Row → Asked Instruction
-tableAsked code pc r =
-    let at = aligned pc in
-    let low = s32 code (at + 4) in
-    let high = s32 code (at + 8) in
-    let n = natAbs (high -ℤ low) + 1 in
-    let end = at + 12 + 4 * n in do
-      -- fixed fields in the code? 5. low ≤ high? 6. Table in the code? 5
-      at + 12 ≤ⁿ length code else 5
-      low ≤ᶻ high else 6
-      end ≤ⁿ length code else 5
-      passed (record { rule = r .rule; size = end - pc; operand = operands 0 (s32 code at) (offsetsFrom code (at + 12) low n) })
+tableAsked code pc r = do
+  aligned pc + 12 ≤ⁿ length code else 5
+  lowKey code pc ≤ᶻ highKey code pc else 6
+  tableEnd code pc ≤ⁿ length code else 5
+  passed (instruction r (tableEnd code pc - pc) (tableOperand code pc))
 
 -- LOOKUPSWITCH: default, npairs, then npairs pairs of a key and an offset
+abbrev pub pairCount : List ℕ → ℕ → ℤ
+pairCount code pc = s32 code (aligned pc + 4)
+
+abbrev pub keyPairs : List ℕ → ℕ → List (ℤ × ℤ)
+keyPairs code pc = pairsFrom code (aligned pc + 8) (natAbs (pairCount code pc))
+
+abbrev pub pairsEnd : List ℕ → ℕ → ℕ
+pairsEnd code pc = aligned pc + 8 + 8 * natAbs (pairCount code pc)
+
+abbrev pub pairsOperand : List ℕ → ℕ → Operand
+pairsOperand code pc = operands 0 (s32 code (aligned pc)) (keyPairs code pc)
+
+-- fixed fields in the code? 5. Pair count not negative? 6. Table in the code? 5. Keys strictly rising? 6
 unfoldable pub lookupAsked : List ℕ → ℕ → Row → Asked Instruction
-lookupAsked code pc r =
-    let at = aligned pc in
-    let n = natAbs (s32 code (at + 4)) in
-    let end = at + 8 + 8 * n in do
-      -- fixed fields in the code? 5. Pair count not negative? 6. Table in the code? 5. Keys strictly rising? 6
-      at + 8 ≤ⁿ length code else 5
-      pos 0 ≤ᶻ s32 code (at + 4) else 6
-      end ≤ⁿ length code else 5
-      rising (pairsFrom code (at + 8) n) else 6
-      passed (record { rule = r .rule; size = end - pc; operand = operands 0 (s32 code at) (pairsFrom code (at + 8) n) })
+lookupAsked code pc r = do
+  aligned pc + 8 ≤ⁿ length code else 5
+  pos 0 ≤ᶻ pairCount code pc else 6
+  pairsEnd code pc ≤ⁿ length code else 5
+  rising (keyPairs code pc) else 6
+  passed (instruction r (pairsEnd code pc - pc) (pairsOperand code pc))
 
 -- ---- every format
 
