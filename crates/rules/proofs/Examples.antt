@@ -2,19 +2,16 @@
 use mathlib.Core.Path.{_≡_, refl}
 use mathlib.Core.List.{[], _∷_}
 use Rattle.values.specs.declared.Value.the-variants.{Int}
-use Rattle.rules.specs.declared.Decision.the-variants.{Ordinary}
 use Rattle.rules.specs.declared.End.the-variants as End
 use Rattle.rules.specs.Fetch.{aligned}
-use Rattle.rules.specs.Step.{update}
-use Rattle.rules.specs.Run.{ends}
-use Rattle.rules.proofs.Given.{lent, state, decided, ran, on, leaves}
+use Rattle.rules.proofs.Given.{lent, state, decided, changes, ran, on, leaves}
 
 -- ---- marked examples for the key
 
 pub record Marked : Type 0 where
   pub idiv-minimum : on 108 (0x80000000 ∷ 0xffffffff ∷ []) ≡ leaves (0x80000000 ∷ [])
   pub irem-minimum : on 112 (0x80000000 ∷ 0xffffffff ∷ []) ≡ leaves (0 ∷ [])
-  pub iinc-255 : decided (lent (132 ∷ 0 ∷ 255 ∷ 0 ∷ []) [] []) (state 0 1 0 0 0) (0 ∷ []) ≡ Ordinary (update 3 0 0 1 (0xffffffff ∷ []))
+  pub iinc-255 : decided (lent (132 ∷ 0 ∷ 255 ∷ 0 ∷ []) [] []) (state 0 1 0 0 0) (0 ∷ []) ≡ changes 3 0 0 (0xffffffff ∷ [])
   pub lcmp-minimum : on 148 (0 ∷ 0x80000000 ∷ 1 ∷ 0 ∷ []) ≡ leaves (0xffffffff ∷ [])
   pub f2i-large : on 139 (0x4f000000 ∷ []) ≡ leaves (0x7fffffff ∷ [])
   pub f2i-nan : on 139 (0x7fc00000 ∷ []) ≡ leaves (0 ∷ [])
@@ -53,6 +50,6 @@ marked =
 
 -- ---- the printed walk: 3 + 4, returned after three ordinary steps
 
-pub printed : ran (lent (6 ∷ 7 ∷ 0x60 ∷ 0xac ∷ []) [] []) 1600 (state 2 0 0 0 0) (0 ∷ 0 ∷ []) ≡ ends (state 2 0 3 1 0) (7 ∷ 4 ∷ []) 3 (End.Return (Int 7))
+pub printed : ran (lent (6 ∷ 7 ∷ 0x60 ∷ 0xac ∷ []) [] []) 1600 (state 2 0 0 0 0) (0 ∷ 0 ∷ []) ≡ record { state = state 2 0 3 1 0; steps = 3; end = End.Return (Int 7); slots = 7 ∷ 4 ∷ [] }
 unfolding ran
 printed = refl

@@ -3,7 +3,7 @@
 use Prim.Native.Nat.{ℕ, _-_}
 use mathlib.Core.Path.{_≡_}
 use mathlib.Core.List.{List, [], _∷_, _++_, map}
-use lib.ListN.{length, replicate}
+use lib.ListN.{length, getD, replicate}
 use lib.Ieee as Ieee
 use Rattle.values.specs.Integers.{signed, low, bitwise, flipped}
 use Rattle.values.specs.Floats.{nearest}
@@ -15,7 +15,7 @@ use Rattle.rules.specs.Asked.{_else_, _>>_, _>>=_}
 use Rattle.rules.specs.Instructions.{rowOf}
 use Rattle.rules.specs.Fetch.{wideAsked, tableAsked, lookupAsked, offsetsFrom, pairsFrom, fetched}
 use Rattle.rules.specs.Questions.{Lent, frameAsked, needsAsked}
-use Rattle.rules.specs.Step.{update, decideOf}
+use Rattle.rules.specs.Step.{decideOf}
 use Rattle.rules.specs.Run.{Ran, runFrom, runOf}
 
 abbrev pub lent : List ℕ → List ℕ → List ℕ → Lent
@@ -23,6 +23,22 @@ lent code kinds words = record { code = code; kinds = kinds; words = words }
 
 abbrev pub state : ℕ → ℕ → ℕ → ℕ → ℕ → State
 state stack locals pc depth count = record { «max_stack» = stack; «max_locals» = locals; pc = pc; depth = depth; count = count }
+
+-- an ordinary step to an offset and a depth that writes these words from a place on, written out
+abbrev pub changes : ℕ → ℕ → ℕ → List ℕ → Decision
+changes pc depth first ws =
+    Ordinary (record {
+      pc = pc;
+      depth = depth;
+      first = first;
+      many = length ws;
+      w0 = getD ws 0 0;
+      w1 = getD ws 1 0;
+      w2 = getD ws 2 0;
+      w3 = getD ws 3 0;
+      w4 = getD ws 4 0;
+      w5 = getD ws 5 0;
+    })
 
 unfoldable pub decided : Lent → State → List ℕ → Decision
 unfolding decideOf frameAsked fetched needsAsked wideAsked tableAsked lookupAsked offsetsFrom pairsFrom rowOf _else_ _>>_ _>>=_
@@ -51,7 +67,7 @@ on op ws = decided (lent (op ∷ 0 ∷ []) [] []) (state 8 0 0 (length ws) 0) (w
 
 -- it leaves these words, all of them pushed
 abbrev pub leaves : List ℕ → Decision
-leaves ws = Ordinary (update 1 (length ws) 0 (length ws) ws)
+leaves ws = changes 1 (length ws) 0 ws
 
 -- ---- a branch by 6, on such a stack; it goes on at an offset
 
@@ -60,7 +76,7 @@ unfolding decided
 if op ws = decided (lent (op ∷ 0 ∷ 6 ∷ 0 ∷ 0 ∷ 0 ∷ 0 ∷ []) [] []) (state 8 0 0 (length ws) 0) (ws ++ replicate (8 - length ws) 0)
 
 abbrev pub goes : ℕ → Decision
-goes pc = Ordinary (update pc 0 0 0 [])
+goes pc = changes pc 0 0 []
 
 -- ---- a whole method with no arguments, run from its start
 

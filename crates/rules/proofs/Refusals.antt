@@ -4,9 +4,8 @@ use mathlib.Core.Path.{refl}
 use mathlib.Core.List.{List, [], _∷_}
 use Rattle.values.specs.declared.Value.the-variants.{Void, Int}
 use Rattle.rules.specs.declared.Decision.{Decision}
-use Rattle.rules.specs.declared.Decision.the-variants.{Ordinary, Return, Throw, Refused}
-use Rattle.rules.specs.Step.{update}
-use Rattle.rules.proofs.Given.{_equals_, AllHold, lent, state, decided, goes}
+use Rattle.rules.specs.declared.Decision.the-variants.{Return, Throw, Refused}
+use Rattle.rules.proofs.Given.{_equals_, AllHold, lent, state, decided, changes, goes}
 
 -- a code with an empty pool, six slots of which the first is 1, at offset 0
 unfoldable at : List ℕ → ℕ → ℕ → ℕ → Decision
@@ -20,10 +19,10 @@ loads code kinds words = decided (lent code kinds words) (state 6 0 0 0 0) (0 �
 
 -- one word or two pushed on an empty stack
 abbrev pushed-1 : ℕ → ℕ → Decision
-pushed-1 pc a = Ordinary (update pc 1 0 1 (a ∷ []))
+pushed-1 pc a = changes pc 1 0 (a ∷ [])
 
 abbrev pushed-2 : ℕ → ℕ → ℕ → Decision
-pushed-2 pc a b = Ordinary (update pc 2 0 2 (a ∷ b ∷ []))
+pushed-2 pc a b = changes pc 2 0 (a ∷ b ∷ [])
 
 -- ---- questions 1 to 3, and their order
 
@@ -37,7 +36,7 @@ frames =
     decided (lent [] [] []) (state 1 1 0 0 0) (0 ∷ 0 ∷ []) equals Refused 2 ∷
     decided (lent (0 ∷ 0 ∷ []) [] []) (state 1 1 2 0 0) (0 ∷ 0 ∷ []) equals Refused 2 ∷
     decided (lent (0 ∷ 0 ∷ []) [] []) (state 1 1 0 2 0) (0 ∷ 0 ∷ []) equals Refused 3 ∷
-    decided (lent (0 ∷ 0 ∷ []) [] []) (state 1 1 0 1 0) (0 ∷ 0 ∷ []) equals Ordinary (update 1 1 0 0 []) ∷
+    decided (lent (0 ∷ 0 ∷ []) [] []) (state 1 1 0 1 0) (0 ∷ 0 ∷ []) equals changes 1 1 0 [] ∷
     -- all three answered no, then 2 and 3, then 3 and 4
     decided (lent [] (0 ∷ []) []) (state 1 1 9 9 0) (0 ∷ 0 ∷ []) equals Refused 1 ∷
     decided (lent (46 ∷ []) [] []) (state 1 1 9 9 0) (0 ∷ 0 ∷ []) equals Refused 2 ∷
@@ -63,9 +62,9 @@ fetches =
     at (196 ∷ 0 ∷ []) 6 0 0 equals Refused 4 ∷
     at (196 ∷ 46 ∷ []) 6 0 0 equals Refused 4 ∷
     at (196 ∷ 21 ∷ 0 ∷ []) 5 1 0 equals Refused 5 ∷
-    at (196 ∷ 21 ∷ 0 ∷ 0 ∷ 0 ∷ []) 5 1 0 equals Ordinary (update 4 1 1 1 (1 ∷ [])) ∷
+    at (196 ∷ 21 ∷ 0 ∷ 0 ∷ 0 ∷ []) 5 1 0 equals changes 4 1 1 (1 ∷ []) ∷
     at (196 ∷ 132 ∷ 0 ∷ 0 ∷ 0 ∷ []) 5 1 0 equals Refused 5 ∷
-    at (196 ∷ 132 ∷ 0 ∷ 0 ∷ 1 ∷ 0 ∷ 0 ∷ []) 5 1 0 equals Ordinary (update 6 0 0 1 (257 ∷ [])) ∷
+    at (196 ∷ 132 ∷ 0 ∷ 0 ∷ 1 ∷ 0 ∷ 0 ∷ []) 5 1 0 equals changes 6 0 0 (257 ∷ []) ∷
     -- TABLESWITCH: a byte of the fixed fields missing; low above high, before the table is asked; a byte of the table missing; the whole, with padding not 0; the largest table
     at (170 ∷ 0 ∷ 0 ∷ 0 ∷ 0 ∷ 0 ∷ 0 ∷ 0 ∷ 0 ∷ 0 ∷ 0 ∷ 1 ∷ 0 ∷ 0 ∷ 0 ∷ []) 6 0 1 equals Refused 5 ∷
     at (170 ∷ 0 ∷ 0 ∷ 0 ∷ 0 ∷ 0 ∷ 0 ∷ 0 ∷ 0 ∷ 0 ∷ 0 ∷ 1 ∷ 0 ∷ 0 ∷ 0 ∷ 0 ∷ []) 6 0 1 equals Refused 6 ∷
@@ -101,13 +100,13 @@ needs =
     at (3 ∷ 0 ∷ []) 2 0 2 equals Refused 8 ∷
     at (9 ∷ 0 ∷ []) 2 0 1 equals Refused 8 ∷
     at (89 ∷ 0 ∷ []) 1 0 1 equals Refused 8 ∷
-    at (95 ∷ 0 ∷ []) 2 0 2 equals Ordinary (update 1 2 0 2 (2 ∷ 1 ∷ [])) ∷
+    at (95 ∷ 0 ∷ []) 2 0 2 equals changes 1 2 0 (2 ∷ 1 ∷ []) ∷
     -- a DUP on no stack at all pops nothing and fits nothing
     at (89 ∷ 0 ∷ []) 0 0 0 equals Refused 7 ∷
     -- a local past the last, a long in the last one, a long in the last two; on a full stack the push comes first
     at (21 ∷ 2 ∷ 0 ∷ []) 2 2 0 equals Refused 9 ∷
     at (31 ∷ 0 ∷ []) 2 2 0 equals Refused 9 ∷
-    at (30 ∷ 0 ∷ []) 2 2 0 equals Ordinary (update 1 2 2 2 (1 ∷ 2 ∷ [])) ∷
+    at (30 ∷ 0 ∷ []) 2 2 0 equals changes 1 2 2 (1 ∷ 2 ∷ []) ∷
     at (61 ∷ 0 ∷ []) 2 2 1 equals Refused 9 ∷
     at (64 ∷ 0 ∷ []) 2 2 2 equals Refused 9 ∷
     at (132 ∷ 2 ∷ 1 ∷ 0 ∷ []) 2 2 0 equals Refused 9 ∷

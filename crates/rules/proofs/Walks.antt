@@ -3,13 +3,15 @@ use Prim.Native.Nat.{ℕ}
 use mathlib.Core.Path.{refl}
 use mathlib.Core.List.{List, [], _∷_}
 use Rattle.values.specs.declared.Value.the-variants.{Void, Int, Float, Reference, Long, Double}
+use Rattle.rules.specs.declared.State.{State}
 use Rattle.rules.specs.declared.Decision.{Decision}
-use Rattle.rules.specs.declared.Decision.the-variants.{Ordinary, Return, Throw, Refused}
+use Rattle.rules.specs.declared.Decision.the-variants.{Return, Throw, Refused}
+use Rattle.rules.specs.declared.End.{End}
 use Rattle.rules.specs.declared.End.the-variants as End
-use Rattle.rules.specs.Step.{update, Stepped, stepOf}
-use Rattle.rules.specs.Run.{Ran, ends}
+use Rattle.rules.specs.Step.{Stepped, stepOf}
+use Rattle.rules.specs.Run.{Ran}
 use Rattle.rules.specs.Answers.{Answer, decisionAnswer, endAnswer}
-use Rattle.rules.proofs.Given.{_equals_, AllHold, lent, state, decided, ran}
+use Rattle.rules.proofs.Given.{_equals_, AllHold, lent, state, decided, changes, ran}
 
 -- ---- the places that an instruction writes: two locals, four places of stack, slots beyond the frame
 
@@ -20,16 +22,16 @@ writes code depth = decided (lent code [] []) (state 4 2 0 depth 0) (10 ∷ 11 �
 abbrev places : List (Decision × Decision)
 places =
     -- what is pushed lies from the first place popped on; the first place of a store is the local
-    writes (96 ∷ 0 ∷ []) 3 equals Ordinary (update 1 2 3 1 (27 ∷ [])) ∷
-    writes (89 ∷ 0 ∷ []) 3 equals Ordinary (update 1 4 4 2 (14 ∷ 14 ∷ [])) ∷
-    writes (136 ∷ 0 ∷ []) 4 equals Ordinary (update 1 3 4 1 (14 ∷ [])) ∷
-    writes (60 ∷ 0 ∷ []) 3 equals Ordinary (update 1 2 1 1 (14 ∷ [])) ∷
-    writes (63 ∷ 0 ∷ []) 4 equals Ordinary (update 1 2 0 2 (14 ∷ 15 ∷ [])) ∷
-    writes (27 ∷ 0 ∷ []) 1 equals Ordinary (update 1 2 3 1 (11 ∷ [])) ∷
-    writes (132 ∷ 1 ∷ 255 ∷ 0 ∷ []) 4 equals Ordinary (update 3 4 1 1 (10 ∷ [])) ∷
+    writes (96 ∷ 0 ∷ []) 3 equals changes 1 2 3 (27 ∷ []) ∷
+    writes (89 ∷ 0 ∷ []) 3 equals changes 1 4 4 (14 ∷ 14 ∷ []) ∷
+    writes (136 ∷ 0 ∷ []) 4 equals changes 1 3 4 (14 ∷ []) ∷
+    writes (60 ∷ 0 ∷ []) 3 equals changes 1 2 1 (14 ∷ []) ∷
+    writes (63 ∷ 0 ∷ []) 4 equals changes 1 2 0 (14 ∷ 15 ∷ []) ∷
+    writes (27 ∷ 0 ∷ []) 1 equals changes 1 2 3 (11 ∷ []) ∷
+    writes (132 ∷ 1 ∷ 255 ∷ 0 ∷ []) 4 equals changes 3 4 1 (10 ∷ []) ∷
     -- nothing written: first place and how many are both 0
-    writes (88 ∷ 0 ∷ []) 3 equals Ordinary (update 1 1 0 0 []) ∷
-    writes (153 ∷ 0 ∷ 0 ∷ 0 ∷ []) 3 equals Ordinary (update 3 2 0 0 []) ∷
+    writes (88 ∷ 0 ∷ []) 3 equals changes 1 1 0 [] ∷
+    writes (153 ∷ 0 ∷ 0 ∷ 0 ∷ []) 3 equals changes 3 2 0 [] ∷
     []
 
 places-hold : AllHold places
@@ -47,8 +49,8 @@ stepped pc depth count d slots = record { state = state 3 1 pc depth count; deci
 
 abbrev steps : List (Stepped × Stepped)
 steps =
-    step (96 ∷ 0 ∷ []) 2 (9 ∷ 7 ∷ 8 ∷ 6 ∷ 5 ∷ []) equals stepped 1 1 0 (Ordinary (update 1 1 1 1 (15 ∷ []))) (9 ∷ 15 ∷ 8 ∷ 6 ∷ 5 ∷ []) ∷
-    step (87 ∷ 0 ∷ []) 2 (9 ∷ 7 ∷ 8 ∷ 6 ∷ 5 ∷ []) equals stepped 1 1 0 (Ordinary (update 1 1 0 0 [])) (9 ∷ 7 ∷ 8 ∷ 6 ∷ 5 ∷ []) ∷
+    step (96 ∷ 0 ∷ []) 2 (9 ∷ 7 ∷ 8 ∷ 6 ∷ 5 ∷ []) equals stepped 1 1 0 (changes 1 1 1 (15 ∷ [])) (9 ∷ 15 ∷ 8 ∷ 6 ∷ 5 ∷ []) ∷
+    step (87 ∷ 0 ∷ []) 2 (9 ∷ 7 ∷ 8 ∷ 6 ∷ 5 ∷ []) equals stepped 1 1 0 (changes 1 1 0 []) (9 ∷ 7 ∷ 8 ∷ 6 ∷ 5 ∷ []) ∷
     step (172 ∷ []) 2 (9 ∷ 7 ∷ 8 ∷ 6 ∷ 5 ∷ []) equals stepped 0 2 5 (Return (Int 8)) (9 ∷ 7 ∷ 8 ∷ 6 ∷ 5 ∷ []) ∷
     step (108 ∷ []) 2 (9 ∷ 7 ∷ 0 ∷ 6 ∷ 5 ∷ []) equals stepped 0 2 5 Throw (9 ∷ 7 ∷ 0 ∷ 6 ∷ 5 ∷ []) ∷
     step (46 ∷ []) 2 (9 ∷ 7 ∷ 8 ∷ 6 ∷ 5 ∷ []) equals stepped 0 2 5 (Refused 4) (9 ∷ 7 ∷ 8 ∷ 6 ∷ 5 ∷ []) ∷
@@ -59,6 +61,9 @@ unfolding step
 steps-hold = refl
 
 -- ---- the run: iconst_1, iconst_2, iadd, and then a return, a division by zero, an opcode outside the core
+
+abbrev reached : State → ℕ → End → List ℕ → Ran
+reached s n e slots = record { state = s; steps = n; end = e; slots = slots }
 
 unfoldable run : ℕ → ℕ → Ran
 unfolding ran
@@ -71,16 +76,16 @@ refused budget = ran (lent (4 ∷ []) [] []) budget (state 1 0 1 0 7) (0 ∷ [])
 abbrev runs : List (Ran × Ran)
 runs =
     -- after exactly budget steps it has stopped, with no further look; count is 0
-    run 172 0 equals ends (state 2 0 0 0 0) (0 ∷ 0 ∷ 9 ∷ []) 0 End.Stopped ∷
-    run 172 1 equals ends (state 2 0 1 1 0) (1 ∷ 0 ∷ 9 ∷ []) 1 End.Stopped ∷
-    run 46 3 equals ends (state 2 0 3 1 0) (3 ∷ 2 ∷ 9 ∷ []) 3 End.Stopped ∷
+    run 172 0 equals reached (state 2 0 0 0 0) 0 End.Stopped (0 ∷ 0 ∷ 9 ∷ []) ∷
+    run 172 1 equals reached (state 2 0 1 1 0) 1 End.Stopped (1 ∷ 0 ∷ 9 ∷ []) ∷
+    run 46 3 equals reached (state 2 0 3 1 0) 3 End.Stopped (3 ∷ 2 ∷ 9 ∷ []) ∷
     -- an outcome, or a refusal, one step before the budget ends
-    run 172 4 equals ends (state 2 0 3 1 0) (3 ∷ 2 ∷ 9 ∷ []) 3 (End.Return (Int 3)) ∷
-    run 46 4 equals ends (state 2 0 3 1 0) (3 ∷ 2 ∷ 9 ∷ []) 3 (End.Refused 4) ∷
-    ran (lent (4 ∷ 3 ∷ 112 ∷ []) [] []) 9 (state 2 0 0 0 7) (5 ∷ 5 ∷ []) equals ends (state 2 0 2 2 0) (1 ∷ 0 ∷ []) 2 End.Throw ∷
+    run 172 4 equals reached (state 2 0 3 1 0) 3 (End.Return (Int 3)) (3 ∷ 2 ∷ 9 ∷ []) ∷
+    run 46 4 equals reached (state 2 0 3 1 0) 3 (End.Refused 4) (3 ∷ 2 ∷ 9 ∷ []) ∷
+    ran (lent (4 ∷ 3 ∷ 112 ∷ []) [] []) 9 (state 2 0 0 0 7) (5 ∷ 5 ∷ []) equals reached (state 2 0 2 2 0) 2 End.Throw (1 ∷ 0 ∷ []) ∷
     -- refused by questions 1 to 3, also with budget 0: the state that it got, count too, and no steps
-    refused 0 equals record { state = state 1 0 1 0 7; steps = 0; end = End.Refused 2; slots = 0 ∷ [] } ∷
-    refused 5 equals record { state = state 1 0 1 0 7; steps = 0; end = End.Refused 2; slots = 0 ∷ [] } ∷
+    refused 0 equals reached (state 1 0 1 0 7) 0 (End.Refused 2) (0 ∷ []) ∷
+    refused 5 equals reached (state 1 0 1 0 7) 0 (End.Refused 2) (0 ∷ []) ∷
     []
 
 runs-hold : AllHold runs
@@ -94,7 +99,7 @@ says n low high = record { number = n; low = low; high = high }
 
 abbrev answers : List (Answer × Answer)
 answers =
-    decisionAnswer (Ordinary (update 1 2 3 1 (4 ∷ []))) equals says 0 0 0 ∷
+    decisionAnswer (changes 1 2 3 (4 ∷ [])) equals says 0 0 0 ∷
     decisionAnswer (Return (Int 0xfffffffe)) equals says 101 0xfffffffe 0 ∷
     decisionAnswer (Return (Float 0x3f800000)) equals says 102 0x3f800000 0 ∷
     decisionAnswer (Return (Reference 5)) equals says 103 5 0 ∷

@@ -1,10 +1,11 @@
 -- The forms that an instruction's description takes (JVMS 6.5, 'Format', 'Operand Stack', 'Description'): what stands in a row of the table. Assumes nothing.
-use Prim.Native.Nat.{ℕ, suc, _-_}
+use Prim.Native.Nat.{ℕ}
 use Prim.Native.String.{String}
 use mathlib.Core.Bool.{Bool, true, cond}
 use mathlib.Core.List.{List, [], _∷_, map}
 use lib.IntN.{ℤ, _+ℤ_}
-use lib.ListN.{length, getD, take, drop}
+use lib.ListN.{getD, take, drop}
+use lib.Dec.{eqb}
 use Rattle.values.specs.declared.Value.{Value}
 use Rattle.values.specs.Kinds.{Kind, int, any, places}
 use Rattle.values.specs.Integers.{_=ᶻ_}
@@ -87,20 +88,24 @@ store k = record { takes = k ∷ []; gives = []; locals = k ∷ []; constants = 
 abbrev pub increment : Rule
 increment = record { takes = []; gives = []; locals = int ∷ []; constants = []; reads = local; does = λ o ws. stores (wordsOf int (bits int (meaning int (valueAt int ws) +ℤ o .constant))) }
 
--- ---- words moved about on the stack, whatever they mean. JVMS counts from the top: v1 is the top word
+-- ---- words moved about on the stack, whatever they mean: `v2 ∷ v1 ∷ [] ⇒ ..` names the words popped, as JVMS does, v1 being the top one
 
 pub data Word : Type 0 where
   v1 v2 v3 v4 : Word
 
--- how many words lie above it
-abbrev pub above : Word → ℕ
-above v1 = 0
-above v2 = 1
-above v3 = 2
-above v4 = 3
+abbrev pub number : Word → ℕ
+number v1 = 1
+number v2 = 2
+number v3 = 3
+number v4 = 4
+
+-- the word that has a name among those popped
+abbrev pub named : Word → List Word → List ℕ → ℕ
+named v [] ws = 0
+named v (u ∷ us) ws = cond (eqb (number v) (number u)) (getD ws 0 0) (named v us (drop 1 ws))
 
 abbrev pub _⇒_ : List Word → List Word → Rule
-before ⇒ after = onStack (map (λ v. any) before) (map (λ v. any) after) λ o ws. pushes (map (λ v. getD ws (length before - suc (above v)) 0) after)
+before ⇒ after = onStack (map (λ v. any) before) (map (λ v. any) after) λ o ws. pushes (map (λ v. named v before ws) after)
 
 -- ---- control
 
