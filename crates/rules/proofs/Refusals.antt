@@ -5,6 +5,7 @@ use mathlib.Core.List.{List, [], _∷_}
 use Rattle.values.specs.declared.Value.the-variants.{Void, Int}
 use Rattle.rules.specs.declared.Decision.{Decision}
 use Rattle.rules.specs.declared.Decision.the-variants.{Return, Throw, Refused}
+use Rattle.rules.specs.Fetch.{u8, u16, u32}
 use Rattle.rules.proofs.Given.{_equals_, AllHold, lent, state, decided, changes, goes}
 
 -- a code with an empty pool, six slots of which the first is 1, at offset 0
@@ -46,6 +47,19 @@ frames =
 frames-hold : AllHold frames
 unfolding decided
 frames-hold = refl
+
+-- ---- bytes of the code, big-endian; past its end they read as 0
+
+abbrev reads : List (ℕ × ℕ)
+reads =
+    u8 (1 ∷ 2 ∷ 3 ∷ 4 ∷ []) 3 equals 4 ∷
+    u8 (1 ∷ 2 ∷ 3 ∷ 4 ∷ []) 4 equals 0 ∷
+    u16 (1 ∷ 2 ∷ 3 ∷ 4 ∷ []) 1 equals 0x203 ∷
+    u32 (1 ∷ 2 ∷ 3 ∷ 4 ∷ []) 0 equals 0x1020304 ∷
+    []
+
+reads-hold : AllHold reads
+reads-hold = refl
 
 -- ---- questions 4 and 5
 

@@ -101,6 +101,34 @@ shapes-all : map (shapeIn shapes) (upTo 256) ≡ map (λ n. shapeOfRow (rowOf n)
 unfolding rowOf
 shapes-all = refl
 
+-- ---- the local that an instruction names, and the kinds that its constant may have
+
+abbrev names : List Kind → List Kind → List (ℕ × ℕ) → Shape
+names locals constants ops = shape locals constants ops
+
+abbrev named : List Shape
+named =
+    names (int ∷ []) [] (21 to 21 ∷ 26 to 29 ∷ 54 to 54 ∷ 59 to 62 ∷ 132 to 132 ∷ []) ∷
+    names (long ∷ []) [] (22 to 22 ∷ 30 to 33 ∷ 55 to 55 ∷ 63 to 66 ∷ []) ∷
+    names (float ∷ []) [] (23 to 23 ∷ 34 to 37 ∷ 56 to 56 ∷ 67 to 70 ∷ []) ∷
+    names (double ∷ []) [] (24 to 24 ∷ 38 to 41 ∷ 57 to 57 ∷ 71 to 74 ∷ []) ∷
+    names (reference ∷ []) [] (25 to 25 ∷ 42 to 45 ∷ 58 to 58 ∷ 75 to 78 ∷ []) ∷
+    names [] (int ∷ float ∷ []) (18 to 19 ∷ []) ∷
+    names [] (long ∷ double ∷ []) (20 to 20 ∷ []) ∷
+    []
+
+abbrev nothingNamed : Option (List Kind × List Kind) → (List Kind × List Kind)
+nothingNamed none = ([], [])
+nothingNamed (some p) = p
+
+abbrev namedByRow : Option Row → (List Kind × List Kind)
+namedByRow none = ([], [])
+namedByRow (some r) = (r .rule .locals, r .rule .constants)
+
+named-all : map (λ n. nothingNamed (shapeIn named n)) (upTo 256) ≡ map (λ n. namedByRow (rowOf n)) (upTo 256)
+unfolding rowOf
+named-all = refl
+
 -- ---- the length of the instruction at offset 0, zeros following: a TABLESWITCH then has one entry and a LOOKUPSWITCH no pair
 
 record Length : Type 0 where

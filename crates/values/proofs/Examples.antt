@@ -1,4 +1,5 @@
 -- The definitions at their limits, worked out by hand. Assumes nothing.
+use Prim.Native.Nat.{_-_}
 use mathlib.Core.Path.{_≡_, refl}
 use mathlib.Core.Bool.{true, false}
 use mathlib.Core.List.{[], _∷_, map}
@@ -30,6 +31,7 @@ record Whole : Type 0 where
   ored : bitwise 4 or 12 10 ≡ 14
   xored : bitwise 4 xor 12 10 ≡ 6
   cut : bitwise 3 or 12 10 ≡ 6
+  in-order : bitwise 4 (λ x y. x - y) 12 10 ≡ 4
   turned-on : flipped 31 1 ≡ 0x80000001
   turned-off : flipped 31 0x80000000 ≡ 0
 
@@ -53,6 +55,7 @@ whole =
       ored = refl;
       xored = refl;
       cut = refl;
+      in-order = refl;
       turned-on = refl;
       turned-off = refl;
     }

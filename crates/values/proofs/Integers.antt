@@ -1,9 +1,9 @@
 -- Two's complement over the width: what a word means by its sign, and the low bits of a number in range. Assumes nothing.
-use Prim.Native.Nat.{ℕ, suc, _-_, _%_, _^_, _≤_, _<_}
+use Prim.Native.Nat.{ℕ, suc, _-_, _^_, _≤_, _<_}
 use mathlib.Core.Path.{_≡_, ap}
 use mathlib.Core.Bool.{Bool, cond}
 use native.Mathlib.Nat.{mod-eq-of-lt}
-use lib.IntN.{ℤ, pos, negsuc}
+use lib.IntN.{pos, negsuc}
 use borrow.Author.Tests.{lt-ltb, le-ltb}
 use Rattle.values.specs.Integers.{signed, low}
 

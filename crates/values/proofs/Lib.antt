@@ -1,5 +1,6 @@
 -- Laws that other crates cite
 pub mod Integers
+pub mod LowBits
 pub mod Words
 -- Examples, which only the checker reads
 mod Examples
