@@ -1,0 +1,15 @@
+-- `lneg` meets its contract. Assumes nothing.
+use mathlib.Core.Path.{_∙_}
+use borrow.Author.Needs.{needs}
+use Rattle.integers.proofs.Sums.{negative}
+use Rattle.integers.proofs.long.lneg.Statement.{statement}
+use Rattle.integers.proofs.long.lneg.Tie as tie
+
+minus-requires : tie.Need-minus-requires
+minus-requires c κs = search needs
+
+returns : tie.Need-returns
+returns c = c .minus .ensures ∙ negative 63 (c .before .args .a) (c .before .fits .a .fits)
+
+pub lneg-spec : {M : Type 1} → statement M
+lneg-spec = tie.close (tie.spec minus-requires returns)

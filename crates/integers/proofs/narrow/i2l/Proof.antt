@@ -1,0 +1,18 @@
+-- `i2l` meets its contract. Assumes nothing.
+use native.Mathlib.Omega.{arith}
+use borrow.Author.Needs.{needs}
+use Rattle.integers.proofs.Extend.{extend-plus, extend-minus}
+use Rattle.integers.proofs.narrow.i2l.Statement.{statement}
+use Rattle.integers.proofs.narrow.i2l.Tie as tie
+
+add-result : tie.Need-add-result
+add-result c = search needs
+
+returns : tie.Need-returns
+returns c = extend-plus 31 64 (c .before .args .a) (c .if1 .taken) (omega arith)
+
+returns-2 : tie.Need-returns-2
+returns-2 c = extend-minus 31 64 (c .before .args .a) _ (c .if1 .left) (omega arith) (omega arith)
+
+pub i2l-spec : {M : Type 1} → statement M
+i2l-spec = tie.close (tie.spec add-result returns returns-2)
