@@ -1,14 +1,16 @@
 -- The order and the equality of words of h bits and a sign: the order is that of the words with their top bits turned over. Assumes nothing.
 use Prim.Native.Nat.{ℕ, suc, _+_, _-_, _^_, _≤_, _<_}
-use mathlib.Core.Path.{_≡_, refl, sym, ap, _∙_, subst}
+use mathlib.Core.Path.{_≡_, refl, sym, ap, ap₂, _∙_, subst}
 use mathlib.Core.Bool.{Bool, true, false, not, cond}
 use native.Mathlib.Omega.{arith}
 use native.Mathlib.Nat.{pow-succ'}
 use lib.Dec.{T, ltb, leb, eqb, ltb→lt, lt→ltb, eqb→eq, eqb-refl}
+use lib.Bits.{bitXor}
 use lib.IntN.{ℤ, pos, negsuc}
 use lib.Signed.{ltZ, leZ}
 use borrow.Author.Tests.{lt-ltb, le-ltb, le-leb, lt-leb, ltb-true, ltb-false, ne-eqb}
 use Rattle.values.specs.Integers.{signed, flipped, _=ᶻ_}
+use Rattle.integers.proofs.Bitwise.{xor-top}
 
 -- two tests that pass together are equal
 same : (x y : Bool) → (T x → T y) → (T y → T x) → x ≡ y
@@ -69,12 +71,11 @@ leZ-not (negsuc a) (pos b) = refl
 leZ-not (negsuc a) (negsuc b) = leb-not b a
 
 module _ (h a b : ℕ) (A : a < 2 ^ suc h) (B : b < 2 ^ suc h) where
-  pub signed-lt : ltb (flipped h a) (flipped h b) ≡ ltZ (signed h a) (signed h b)
-  signed-lt = less h a b (signed h a) (signed h b) (flipped h a) (flipped h b) (signs h a A) (signs h b B)
-
   pub signed-eq : eqb a b ≡ (signed h a =ᶻ signed h b)
   signed-eq = equal h a b (signed h a) (signed h b) (flipped h a) (flipped h b) (signs h a A) (signs h b B)
 
-module _ (h a b : ℕ) (A : a < 2 ^ suc h) (B : b < 2 ^ suc h) where
-  pub signed-le : leb (flipped h a) (flipped h b) ≡ leZ (signed h a) (signed h b)
-  signed-le = leb-not (flipped h a) (flipped h b) ∙ ap not (signed-lt h b a B A) ∙ sym (leZ-not (signed h a) (signed h b))
+  pub signed-lt : ltb (bitXor a (2 ^ h)) (bitXor b (2 ^ h)) ≡ ltZ (signed h a) (signed h b)
+  signed-lt = ap₂ (λ (m n : ℕ). ltb m n) (xor-top h a A) (xor-top h b B) ∙ less h a b (signed h a) (signed h b) (flipped h a) (flipped h b) (signs h a A) (signs h b B)
+
+pub signed-le : (h a b : ℕ) → a < 2 ^ suc h → b < 2 ^ suc h → leb (bitXor a (2 ^ h)) (bitXor b (2 ^ h)) ≡ leZ (signed h a) (signed h b)
+signed-le h a b A B = leb-not (bitXor a (2 ^ h)) (bitXor b (2 ^ h)) ∙ ap not (signed-lt h b a B A) ∙ sym (leZ-not (signed h a) (signed h b))

@@ -32,6 +32,8 @@ pub use long::lshr;
 pub use long::lsub;
 pub use long::lushr;
 pub use long::lxor;
+pub use narrow::extended8;
+pub use narrow::extended16;
 pub use narrow::i2b;
 pub use narrow::i2c;
 pub use narrow::i2l;

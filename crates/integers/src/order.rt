@@ -1,35 +1,18 @@
 // Ints, longs and words compared (JVMS 2.11.3, 2.11.7). With its top bit turned over, a word has the order of the number that it stands for.
 ghost use mathlib.Core.Path.{_≡_};
 ghost use mathlib.Core.Bool.{not};
-ghost use lib.Dec.{eqb};
+ghost use Prim.Native.Nat.{_^_};
+ghost use lib.Bits.{bitXor};
+ghost use lib.Dec.{eqb, ltb};
 ghost use Rattle.values.specs.Kinds.{int, long};
-ghost use Rattle.values.specs.Integers.{flipped, order, _=ᶻ_, _<ᶻ_, _≤ᶻ_};
+ghost use Rattle.values.specs.Integers.{order, _=ᶻ_, _<ᶻ_, _≤ᶻ_};
 ghost use Rattle.values.specs.Words.{bits, meaning};
 
-fn flipped32(a: u32) -> u32
-    ensures { λ r. ⌜ r ≡ flipped 31 a ⌝ }
-{
-    if a < 0x8000_0000 {
-        a + 0x8000_0000
-    } else {
-        a - 0x8000_0000
-    }
-}
-
-fn flipped64(a: u64) -> u64
-    ensures { λ r. ⌜ r ≡ flipped 63 a ⌝ }
-{
-    if a < 0x8000_0000_0000_0000 {
-        a + 0x8000_0000_0000_0000
-    } else {
-        a - 0x8000_0000_0000_0000
-    }
-}
-
+// The order of two longs, as that of the words with their top bits turned over.
 fn less(a: u64, b: u64) -> bool
-    ensures { λ r. ⌜ r ≡ (meaning long a <ᶻ meaning long b) ⌝ }
+    ensures { λ r. ⌜ r ≡ ltb (bitXor a (2 ^ 63)) (bitXor b (2 ^ 63)) ⌝ }
 {
-    flipped64(a) < flipped64(b)
+    (a ^ 0x8000_0000_0000_0000) < (b ^ 0x8000_0000_0000_0000)
 }
 
 // -1, 0 or 1.
@@ -60,25 +43,25 @@ pub fn icmpne(a: u32, b: u32) -> bool
 pub fn icmplt(a: u32, b: u32) -> bool
     ensures { λ r. ⌜ r ≡ (meaning int a <ᶻ meaning int b) ⌝ }
 {
-    flipped32(a) < flipped32(b)
+    (a ^ 0x8000_0000) < (b ^ 0x8000_0000)
 }
 
 pub fn icmpge(a: u32, b: u32) -> bool
     ensures { λ r. ⌜ r ≡ (meaning int b ≤ᶻ meaning int a) ⌝ }
 {
-    flipped32(b) <= flipped32(a)
+    (b ^ 0x8000_0000) <= (a ^ 0x8000_0000)
 }
 
 pub fn icmpgt(a: u32, b: u32) -> bool
     ensures { λ r. ⌜ r ≡ (meaning int b <ᶻ meaning int a) ⌝ }
 {
-    flipped32(b) < flipped32(a)
+    (b ^ 0x8000_0000) < (a ^ 0x8000_0000)
 }
 
 pub fn icmple(a: u32, b: u32) -> bool
     ensures { λ r. ⌜ r ≡ (meaning int a ≤ᶻ meaning int b) ⌝ }
 {
-    flipped32(a) <= flipped32(b)
+    (a ^ 0x8000_0000) <= (b ^ 0x8000_0000)
 }
 
 pub fn acmpeq(a: u32, b: u32) -> bool

@@ -1,20 +1,10 @@
 -- `icmplt` meets its contract. Assumes nothing.
-use Prim.Native.Nat.{ℕ}
-use mathlib.Core.Path.{_∙_, ap₂}
-use lib.Dec.{ltb}
-use borrow.Author.Needs.{needs}
 use Rattle.integers.proofs.Comparison.{signed-lt}
 use Rattle.integers.proofs.order.icmplt.Statement.{statement}
 use Rattle.integers.proofs.order.icmplt.Tie as tie
 
-flipped32-requires : tie.Need-flipped32-requires
-flipped32-requires c κs = search needs
-
-flipped32-requires-2 : tie.Need-flipped32-requires-2
-flipped32-requires-2 c κs = search needs
-
 returns : tie.Need-returns
-returns c = ap₂ (λ (m n : ℕ). ltb m n) (c .before .flipped32 .ensures) (c .flipped322 .ensures) ∙ signed-lt 31 (c .before .before .args .a) (c .before .before .args .b) (c .before .before .fits .a .fits) (c .before .before .fits .b .fits)
+returns c = signed-lt 31 (c .args .a) (c .args .b) (c .fits .a .fits) (c .fits .b .fits)
 
 pub icmplt-spec : {M : Type 1} → statement M
-icmplt-spec = tie.close (tie.spec flipped32-requires flipped32-requires-2 returns)
+icmplt-spec = tie.close (tie.spec returns)
