@@ -9,18 +9,21 @@ ghost use Rattle.values.specs.Words.{bits, meaning};
 use crate::narrow::extended8;
 use crate::narrow::extended16;
 
+// IADD: a + b.
 pub fn iadd(a: u32, b: u32) -> u32
     ensures { λ r. ⌜ r ≡ bits int (meaning int a +ℤ meaning int b) ⌝ }
 {
     std::num::wrapping_add_u32(a, b)
 }
 
+// ISUB: a - b.
 pub fn isub(a: u32, b: u32) -> u32
     ensures { λ r. ⌜ r ≡ bits int (meaning int a -ℤ meaning int b) ⌝ }
 {
     std::num::wrapping_sub_u32(a, b)
 }
 
+// IMUL: a * b.
 pub fn imul(a: u32, b: u32) -> u32
     ensures { λ r. ⌜ r ≡ bits int (meaning int a *ℤ meaning int b) ⌝ }
 {
@@ -34,6 +37,7 @@ fn minus(n: u32) -> u32
     std::num::wrapping_sub_u32(0, n)
 }
 
+// INEG: -a; the minimum stays.
 pub fn ineg(a: u32) -> u32
     ensures { λ r. ⌜ r ≡ bits int (negℤ (meaning int a)) ⌝ }
 {
@@ -47,7 +51,7 @@ fn magnitude(a: u32) -> u32
     if a < 0x8000_0000 { a } else { minus(a) }
 }
 
-// The quotient rounded toward zero; the minimum by -1 is the minimum.
+// IDIV: the quotient rounded toward zero; the minimum by -1 is the minimum.
 pub fn idiv(a: u32, b: u32) -> u32
     requires { ⌜ 0 < b ⌝ }
     ensures { λ r. ⌜ r ≡ bits int (quotZ (meaning int a) (meaning int b)) ⌝ }
@@ -62,7 +66,7 @@ pub fn idiv(a: u32, b: u32) -> u32
     }
 }
 
-// The remainder of that division, with the dividend's sign.
+// IREM: the remainder of that division, with the dividend's sign.
 pub fn irem(a: u32, b: u32) -> u32
     requires { ⌜ 0 < b ⌝ }
     ensures { λ r. ⌜ r ≡ bits int (remZ (meaning int a) (meaning int b)) ⌝ }
@@ -71,13 +75,14 @@ pub fn irem(a: u32, b: u32) -> u32
     if a < 0x8000_0000 { r } else { minus(r) }
 }
 
+// ISHL: the count is reduced to its low five bits.
 pub fn ishl(a: u32, count: u32) -> u32
     ensures { λ r. ⌜ r ≡ bits int (meaning int a *ℤ pos (2 ^ low 5 (meaning int count))) ⌝ }
 {
     a << (count % 32)
 }
 
-// A negative int is shifted as the complement of its complement.
+// ISHR: with the sign; a negative int is shifted as the complement of its complement.
 pub fn ishr(a: u32, count: u32) -> u32
     ensures { λ r. ⌜ r ≡ bits int (shrZ (meaning int a) (2 ^ low 5 (meaning int count))) ⌝ }
 {
@@ -88,38 +93,42 @@ pub fn ishr(a: u32, count: u32) -> u32
     }
 }
 
+// IUSHR: with zeros.
 pub fn iushr(a: u32, count: u32) -> u32
     ensures { λ r. ⌜ r ≡ a / 2 ^ (count % 32) ⌝ }
 {
     a >> (count % 32)
 }
 
+// IAND: bit by bit.
 pub fn iand(a: u32, b: u32) -> u32
     ensures { λ r. ⌜ r ≡ bitwise 32 and a b ⌝ }
 {
     a & b
 }
 
+// IOR: bit by bit.
 pub fn ior(a: u32, b: u32) -> u32
     ensures { λ r. ⌜ r ≡ bitwise 32 or a b ⌝ }
 {
     a | b
 }
 
+// IXOR: bit by bit.
 pub fn ixor(a: u32, b: u32) -> u32
     ensures { λ r. ⌜ r ≡ bitwise 32 xor a b ⌝ }
 {
     a ^ b
 }
 
-// IINC's sum with its constant of 8 bits.
+// IINC: the sum with its constant of 8 bits and a sign.
 pub fn iinc(a: u32, constant: u8) -> u32
     ensures { λ r. ⌜ r ≡ bits int (meaning int a +ℤ signed 7 constant) ⌝ }
 {
     std::num::wrapping_add_u32(a, extended8(constant))
 }
 
-// The same with 16 bits, after WIDE.
+// IINC after WIDE: the same with 16 bits.
 pub fn iinc_wide(a: u32, constant: u16) -> u32
     ensures { λ r. ⌜ r ≡ bits int (meaning int a +ℤ signed 15 constant) ⌝ }
 {

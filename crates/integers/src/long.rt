@@ -7,12 +7,14 @@ ghost use Rattle.values.specs.Kinds.{int, long};
 ghost use Rattle.values.specs.Integers.{low, bitwise, and, or, xor};
 ghost use Rattle.values.specs.Words.{bits, meaning};
 
+// LADD: a + b.
 pub fn ladd(a: u64, b: u64) -> u64
     ensures { λ r. ⌜ r ≡ bits long (meaning long a +ℤ meaning long b) ⌝ }
 {
     std::num::wrapping_add_u64(a, b)
 }
 
+// LSUB: a - b.
 pub fn lsub(a: u64, b: u64) -> u64
     ensures { λ r. ⌜ r ≡ bits long (meaning long a -ℤ meaning long b) ⌝ }
 {
@@ -31,6 +33,7 @@ fn wrapping_mul(a: u64, b: u64) -> u64
     std::num::wrapping_add_u64(a0 * b0, middle << 32)
 }
 
+// LMUL: a * b.
 pub fn lmul(a: u64, b: u64) -> u64
     ensures { λ r. ⌜ r ≡ bits long (meaning long a *ℤ meaning long b) ⌝ }
 {
@@ -44,6 +47,7 @@ fn minus(n: u64) -> u64
     std::num::wrapping_sub_u64(0, n)
 }
 
+// LNEG: -a; the minimum stays.
 pub fn lneg(a: u64) -> u64
     ensures { λ r. ⌜ r ≡ bits long (negℤ (meaning long a)) ⌝ }
 {
@@ -61,7 +65,7 @@ fn magnitude(a: u64) -> u64
     }
 }
 
-// The quotient rounded toward zero; the minimum by -1 is the minimum.
+// LDIV: the quotient rounded toward zero; the minimum by -1 is the minimum.
 pub fn ldiv(a: u64, b: u64) -> u64
     requires { ⌜ 0 < b ⌝ }
     ensures { λ r. ⌜ r ≡ bits long (quotZ (meaning long a) (meaning long b)) ⌝ }
@@ -80,7 +84,7 @@ pub fn ldiv(a: u64, b: u64) -> u64
     }
 }
 
-// The remainder of that division, with the dividend's sign.
+// LREM: the remainder of that division, with the dividend's sign.
 pub fn lrem(a: u64, b: u64) -> u64
     requires { ⌜ 0 < b ⌝ }
     ensures { λ r. ⌜ r ≡ bits long (remZ (meaning long a) (meaning long b)) ⌝ }
@@ -93,13 +97,14 @@ pub fn lrem(a: u64, b: u64) -> u64
     }
 }
 
+// LSHL: the count is reduced to its low six bits.
 pub fn lshl(a: u64, count: u32) -> u64
     ensures { λ r. ⌜ r ≡ bits long (meaning long a *ℤ pos (2 ^ low 6 (meaning int count))) ⌝ }
 {
     a << (count % 64)
 }
 
-// A negative long is shifted as the complement of its complement.
+// LSHR: with the sign; a negative long is shifted as the complement of its complement.
 pub fn lshr(a: u64, count: u32) -> u64
     ensures { λ r. ⌜ r ≡ bits long (shrZ (meaning long a) (2 ^ low 6 (meaning int count))) ⌝ }
 {
@@ -110,24 +115,28 @@ pub fn lshr(a: u64, count: u32) -> u64
     }
 }
 
+// LUSHR: with zeros.
 pub fn lushr(a: u64, count: u32) -> u64
     ensures { λ r. ⌜ r ≡ a / 2 ^ (count % 64) ⌝ }
 {
     a >> (count % 64)
 }
 
+// LAND: bit by bit.
 pub fn land(a: u64, b: u64) -> u64
     ensures { λ r. ⌜ r ≡ bitwise 64 and a b ⌝ }
 {
     a & b
 }
 
+// LOR: bit by bit.
 pub fn lor(a: u64, b: u64) -> u64
     ensures { λ r. ⌜ r ≡ bitwise 64 or a b ⌝ }
 {
     a | b
 }
 
+// LXOR: bit by bit.
 pub fn lxor(a: u64, b: u64) -> u64
     ensures { λ r. ⌜ r ≡ bitwise 64 xor a b ⌝ }
 {

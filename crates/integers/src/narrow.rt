@@ -5,6 +5,7 @@ ghost use Rattle.values.specs.Kinds.{int, long};
 ghost use Rattle.values.specs.Integers.{signed, low};
 ghost use Rattle.values.specs.Words.{bits, meaning};
 
+// I2L: the long that is an int.
 pub fn i2l(a: u32) -> u64
     ensures { λ r. ⌜ r ≡ bits long (meaning int a) ⌝ }
 {
@@ -15,6 +16,7 @@ pub fn i2l(a: u32) -> u64
     }
 }
 
+// L2I: the low word of a long.
 pub fn l2i(a: u64) -> u32
     ensures { λ r. ⌜ r ≡ bits int (meaning long a) ⌝ }
 {
@@ -43,18 +45,21 @@ pub fn extended16(a: u16) -> u32
     }
 }
 
+// I2B: the low 8 bits with their sign.
 pub fn i2b(a: u32) -> u32
     ensures { λ r. ⌜ r ≡ bits int (signed 7 (low 8 (meaning int a))) ⌝ }
 {
     extended8((a % 0x100) as u8)
 }
 
+// I2C: the low 16 bits.
 pub fn i2c(a: u32) -> u32
     ensures { λ r. ⌜ r ≡ bits int (pos (low 16 (meaning int a))) ⌝ }
 {
     a % 0x1_0000
 }
 
+// I2S: the low 16 bits with their sign.
 pub fn i2s(a: u32) -> u32
     ensures { λ r. ⌜ r ≡ bits int (signed 15 (low 16 (meaning int a))) ⌝ }
 {
