@@ -152,7 +152,7 @@ fn words_hold(op: u64, a: u32, b: u32, result: u64) -> bool {
 
 // Whether the function with this opcode takes a and b, or a alone where b is 0, to the result. An operand that is too wide for
 // the function is a difference.
-pub fn holds(op: u64, a: u64, b: u64, result: u64) -> bool {
+pub(crate) fn holds(op: u64, a: u64, b: u64, result: u64) -> bool {
     if long_holds(op, a, b, result) || double_holds(op, a, b, result) {
         return true;
     }

@@ -1,0 +1,2 @@
+pub mod NaNs
+pub mod Flipped
