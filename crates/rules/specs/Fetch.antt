@@ -30,9 +30,10 @@ s16 code at = signed 15 (u16 code at)
 abbrev pub s32 : List ℕ → ℕ → ℤ
 s32 code at = signed 31 (u32 code at)
 
--- ---- an instruction: its rule, its length in bytes, its operands
+-- ---- an instruction: its opcode (after WIDE, that of the instruction widened), its rule, its length in bytes, its operands
 
 pub record Instruction : Type 0 where
+  pub opcode : ℕ
   pub rule : Rule
   pub size : ℕ
   pub operand : Operand
@@ -41,7 +42,7 @@ abbrev pub operands : ℕ → ℤ → List (ℤ × ℤ) → Operand
 operands x c ps = record { index = x; constant = c; pairs = ps }
 
 abbrev pub instruction : Row → ℕ → Operand → Instruction
-instruction r n o = record { rule = r .rule; size = n; operand = o }
+instruction r n o = record { opcode = r .opcode; rule = r .rule; size = n; operand = o }
 
 abbrev pub coreRow : Option Row → Asked Row
 coreRow none = refused 4
