@@ -46,7 +46,7 @@ Small i = small (i .rule) ≡ true
 SmallRow : Row → Type 0
 SmallRow r = small (r .rule) ≡ true
 
-small-core : (o : Option Row) → OfRow small (λ r. true) o → Holds SmallRow (coreRow o)
+small-core : (o : Option Row) → OfRow (λ r. small (r .rule)) (λ r. true) o → Holds SmallRow (coreRow o)
 unfolding OfRow Holds SmallRow
 small-core none h = tt
 small-core (some r) h = h

@@ -15,16 +15,13 @@ use Rattle.rules.proofs.Asked.{and-true}
 
 -- ---- what is computed of every row
 
--- two functions of a rule agree on the row of an opcode, if it has one
-unfoldable pub OfRow : {A : Type 0} → (Rule → A) → (Rule → A) → Option Row → Type 0
+-- two functions of a row agree on the row of an opcode, if it has one
+unfoldable pub OfRow : {A : Type 0} → (Row → A) → (Row → A) → Option Row → Type 0
 OfRow f g none = Unit {0}
-OfRow f g (some r) = f (r .rule) ≡ g (r .rule)
+OfRow f g (some r) = f r ≡ g r
 
-ofAll : {A : Type 0} → (Rule → A) → List Row → List A
-ofAll f rs = map (λ r. f (r .rule)) rs
-
-everyRow : {A : Type 0} (f g : Rule → A) (rs : List Row) → ofAll f rs ≡ ofAll g rs → (n : ℕ) → OfRow f g (rowIn rs n)
-unfolding rowIn OfRow ofAll
+everyRow : {A : Type 0} (f g : Row → A) (rs : List Row) → map f rs ≡ map g rs → (n : ℕ) → OfRow f g (rowIn rs n)
+unfolding rowIn OfRow
 everyRow f g [] e n = tt
 everyRow f g (r ∷ rs) e n = go (eqb n (r .opcode)) (rowIn rs n) (everyRow f g rs (cc) n)
   where
@@ -32,9 +29,32 @@ everyRow f g (r ∷ rs) e n = go (eqb n (r .opcode)) (rowIn rs n) (everyRow f g 
     go true o h = cc
     go false o h = h
 
-pub of-row : {A : Type 0} (f g : Rule → A) (o : Option Row) (r : Row) → OfRow f g o → o ≡ some r → f (r .rule) ≡ g (r .rule)
+-- where they agree on the whole table, by one computation
+pub every-row : {A : Type 0} (f g : Row → A) → map f instructions ≡ map g instructions → (n : ℕ) → OfRow f g (rowOf n)
+unfolding rowOf
+every-row f g e n = everyRow f g instructions e n
+
+pub of-row : {A : Type 0} (f g : Row → A) (o : Option Row) (r : Row) → OfRow f g o → o ≡ some r → f r ≡ g r
 unfolding OfRow
 of-row f g o r h e = rw e at h
+
+-- a row is found under its own opcode
+Own : ℕ → Option Row → Type 0
+Own n none = Unit {0}
+Own n (some r) = r .opcode ≡ n
+
+own : (n : ℕ) (rs : List Row) → Own n (rowIn rs n)
+unfolding rowIn Own
+own n [] = tt
+own n (r ∷ rs) = go (own n rs) (eqb n (r .opcode)) refl
+  where
+    go : Own n (rowIn rs n) → (t : Bool) → eqb n (r .opcode) ≡ t → Own n (cond t (some r) (rowIn rs n))
+    go h true e = sym (eqb-true n (r .opcode) e)
+    go h false e = h
+
+pub own-opcode : (n : ℕ) (r : Row) → rowOf n ≡ some r → r .opcode ≡ n
+unfolding rowOf Own
+own-opcode n r e = subst (Own n) e (own n instructions)
 
 -- at most six words pushed, at most one local named
 abbrev fewLocals : List Kind → Bool
@@ -45,9 +65,9 @@ fewLocals (k ∷ j ∷ ks) = false
 abbrev pub small : Rule → Bool
 small r = leb (placesOf (r .gives)) 6 && fewLocals (r .locals)
 
-pub small-row : (n : ℕ) → OfRow small (λ r. true) (rowOf n)
-unfolding instructions rowOf ofAll
-small-row n = everyRow small (λ r. true) instructions refl n
+pub small-row : (n : ℕ) → OfRow (λ r. small (r .rule)) (λ r. true) (rowOf n)
+unfolding instructions
+small-row n = every-row (λ r. small (r .rule)) (λ r. true) refl n
 
 pub few-pushed : (r : Rule) → small r ≡ true → placesOf (r .gives) ≤ 6
 few-pushed r e = leb-true _ _ (and-true (leb (placesOf (r .gives)) 6) (fewLocals (r .locals)) e .0)
@@ -160,19 +180,22 @@ kindWords r (returns v) = placesOf (r .gives)
 four : ℕ → ℕ → ℕ → ℕ → List ℕ
 four a b c d = a ∷ b ∷ c ∷ d ∷ []
 
-counted : Rule → Operand → ℕ → ℕ → ℕ → ℕ → ℕ
-counted r o a b c d = length (resultWords (r .does o (take (works r) (four a b c d))))
+counted : Row → Operand → ℕ → ℕ → ℕ → ℕ → ℕ
+counted r o a b c d = length (resultWords (r .rule .does o (take (works (r .rule)) (four a b c d))))
 
-said : Rule → Operand → ℕ → ℕ → ℕ → ℕ → ℕ
-said r o a b c d = kindWords r (r .does o (take (works r) (four a b c d)))
+said : Row → Operand → ℕ → ℕ → ℕ → ℕ → ℕ
+said r o a b c d = kindWords (r .rule) (r .rule .does o (take (works (r .rule)) (four a b c d)))
 
 counted-row : (n : ℕ) → OfRow counted said (rowOf n)
-unfolding instructions rowOf ofAll counted said four
-counted-row n = everyRow counted said instructions refl n
+unfolding instructions counted said four
+counted-row n = every-row counted said refl n
 
-works-row : (n : ℕ) → OfRow (λ r. leb (works r) 4) (λ r. true) (rowOf n)
-unfolding instructions rowOf ofAll
-works-row n = everyRow (λ r. leb (works r) 4) (λ r. true) instructions refl n
+worksOnFew : Row → Bool
+worksOnFew r = leb (works (r .rule)) 4
+
+works-row : (n : ℕ) → OfRow worksOnFew (λ r. true) (rowOf n)
+unfolding instructions worksOnFew
+works-row n = every-row worksOnFew (λ r. true) refl n
 
 -- a list of at most four words, by its words
 first-four : (ws : List ℕ) → length ws ≤ 4 → ws ≡ take (length ws) (four (getD ws 0 0) (getD ws 1 0) (getD ws 2 0) (getD ws 3 0))
@@ -186,9 +209,9 @@ first-four (a ∷ b ∷ c ∷ d ∷ e ∷ ws) h = absurd (omega arith)
 
 pub writes-row : (n : ℕ) (r : Row) → rowOf n ≡ some r → (o : Operand) (ws : List ℕ) → length ws ≡ works (r .rule)
     → length (resultWords (r .rule .does o ws)) ≡ kindWords (r .rule) (r .rule .does o ws)
-unfolding counted said
+unfolding counted said worksOnFew
 writes-row n r e o ws l =
-    let few = leb-true (works (r .rule)) 4 (of-row (λ r. leb (works r) 4) (λ r. true) (rowOf n) r (works-row n) e) in
+    let few = leb-true (works (r .rule)) 4 (of-row worksOnFew (λ r. true) (rowOf n) r (works-row n) e) in
     let same = ap (λ (f : Operand → ℕ → ℕ → ℕ → ℕ → ℕ). f o (getD ws 0 0) (getD ws 1 0) (getD ws 2 0) (getD ws 3 0)) (of-row counted said (rowOf n) r (counted-row n) e) in
     let whole = first-four ws (omega arith) in
     subst (λ (v : List ℕ). length (resultWords (r .rule .does o v)) ≡ kindWords (r .rule) (r .rule .does o v)) (sym whole) (rw (sym l) at same)

@@ -1,0 +1,54 @@
+-- A constant of one of two kinds that take as many places, by what stands at the index. Assumes nothing.
+use Prim.Native.Nat.{ℕ, suc, _+_, _≤_, _<_}
+use mathlib.Core.Path.{_≡_, refl, sym, ap, _∙_}
+use mathlib.Core.Bool.{Bool, true, false, _&&_, _||_}
+use mathlib.Core.List.{List, [], _∷_}
+use native.Mathlib.Omega.{arith}
+use native.Mathlib.Nat.{add-zero}
+use lib.Dec.{leb, lit≤}
+use lib.ListN.{length, getD, take, drop, length-take, List·getD-eq-default}
+use lib.Seq.{getD-take, getD-drop}
+use borrow.Author.Tests.{le-leb, lt-leb}
+use Rattle.values.specs.Kinds.{Kind, places}
+use Rattle.rules.specs.Questions.{tagged}
+use Rattle.const_pool.specs.declared.Constant.the-variants.{Found, Missing}
+use Rattle.const_pool.specs.Constant.{found, constantOf}
+
+nothing-fits : (s t : Bool) → (s && false || (t && false || false)) ≡ false
+nothing-fits true true = refl
+nothing-fits true false = refl
+nothing-fits false true = refl
+nothing-fits false false = refl
+
+any-other : (s t : Bool) → (s && true || t) ≡ (s || t)
+any-other true t = refl
+any-other false t = refl
+
+module _ (kinds words : List ℕ) (x : ℕ) (j k : Kind) (same : places k ≡ places j) where
+  pub no-entry : length kinds < x + places j → Missing ≡ constantOf kinds words x j k
+  unfolding constantOf
+  no-entry h = rw (same, lt-leb _ _ h, nothing-fits)
+
+  module _ (there : x + places j ≤ length kinds) where
+    pub first-kind : tagged (getD kinds x 0) j ≡ true → found true (take (places j) (drop x words)) ≡ constantOf kinds words x j k
+    unfolding constantOf
+    first-kind e = rw (e, le-leb _ _ there)
+
+    pub second-kind : tagged (getD kinds x 0) j ≡ false → tagged (getD kinds x 0) k ≡ true → found true (take (places j) (drop x words)) ≡ constantOf kinds words x j k
+    unfolding constantOf
+    second-kind d e = rw (d, e, same, le-leb _ _ there)
+
+  pub no-kind : tagged (getD kinds x 0) j ≡ false → tagged (getD kinds x 0) k ≡ false → Missing ≡ constantOf kinds words x j k
+  unfolding constantOf
+  no-kind d e = rw (d, e)
+
+-- ---- the words of a constant
+
+word-of : (words : List ℕ) (x i n : ℕ) → i < n → getD (take n (drop x words)) i 0 ≡ getD words (x + i) 0
+word-of words x i n l = getD-take n (drop x words) i 0 l ∙ getD-drop x words i 0
+
+pub one-word : (words : List ℕ) (x : ℕ) → Found (getD words x 0) 0 ≡ found true (take 1 (drop x words))
+one-word words x = rw (word-of words x 0 1 (lit≤ tt), add-zero x, List·getD-eq-default (take 1 (drop x words)) 0 {n = 1} (rw (length-take 1 (drop x words)) (omega arith)))
+
+pub two-words : (words : List ℕ) (x : ℕ) → Found (getD words x 0) (getD words (x + 1) 0) ≡ found true (take 2 (drop x words))
+two-words words x = rw (word-of words x 0 2 (lit≤ tt), add-zero x, word-of words x 1 2 (lit≤ tt))
