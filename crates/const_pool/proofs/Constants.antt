@@ -1,11 +1,11 @@
 -- A constant of one of two kinds that take as many places, by what stands at the index. Assumes nothing.
-use Prim.Native.Nat.{ℕ, suc, _+_, _≤_, _<_}
-use mathlib.Core.Path.{_≡_, refl, sym, ap, _∙_}
+use Prim.Native.Nat.{ℕ, _+_, _≤_, _<_}
+use mathlib.Core.Path.{_≡_, refl, _∙_}
 use mathlib.Core.Bool.{Bool, true, false, _&&_, _||_}
-use mathlib.Core.List.{List, [], _∷_}
+use mathlib.Core.List.{List}
 use native.Mathlib.Omega.{arith}
 use native.Mathlib.Nat.{add-zero}
-use lib.Dec.{leb, lit≤}
+use lib.Dec.{lit≤}
 use lib.ListN.{length, getD, take, drop, length-take, List·getD-eq-default}
 use lib.Seq.{getD-take, getD-drop}
 use borrow.Author.Tests.{le-leb, lt-leb}

@@ -1,6 +1,5 @@
 // The constant pool (const_pool.rs) as kinds and words: question 9, and the words of a constant as they stand, a NaN's payload included.
 ghost use mathlib.Core.Path.{_≡_};
-ghost use mathlib.Core.List.{[], _∷_};
 ghost use lib.ListN.{getD};
 ghost use Rattle.values.specs.Kinds.{int, long, float, double};
 ghost use Rattle.const_pool.specs.Constant.{constantOf};

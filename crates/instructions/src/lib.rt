@@ -1,6 +1,7 @@
 // Everything that a step must know about an instruction before it touches the frame: the table, and questions 4 and 5.
-mod decode;
+mod decoding;
 mod table;
 
-pub use decode::Decoded;
+pub use decoding::Decoded;
+pub use decoding::decode;
 pub use table::entry;

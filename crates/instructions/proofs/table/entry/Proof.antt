@@ -1,10 +1,10 @@
 -- `entry` meets its contract: each arm is computed from its row, and what no arm takes is outside the core. Assumes nothing.
-use Prim.Native.Nat.{ℕ, _<_}
-use mathlib.Core.Path.{_≡_, refl, sym, ap, _∙_}
+use Prim.Native.Nat.{ℕ}
+use mathlib.Core.Path.{refl, sym, ap}
 use mathlib.Core.List.{List, [], _∷_}
 use Rattle.rules.specs.Instructions.{rowOf}
 use Rattle.instructions.specs.Table.{entryOf}
-use Rattle.instructions.proofs.Absent.{Absent, absent}
+use Rattle.instructions.proofs.Absent.{absent}
 use Rattle.instructions.proofs.table.entry.Statement.{statement}
 use Rattle.instructions.proofs.table.entry.Tie as tie
 

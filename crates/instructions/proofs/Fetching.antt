@@ -1,0 +1,209 @@
+-- The stages of decoding, on the entry of a row, give what questions 4 and 5 give. Assumes nothing.
+use Prim.Native.Nat.{ℕ, zero, suc, _+_, _/_, _%_, _<_}
+use mathlib.Core.Path.{_≡_, refl, sym, ap, ap₂, _∙_}
+use mathlib.Core.Bool.{Bool, true, false, cond}
+use mathlib.Core.List.{List, [], map}
+use mathlib.Core.Option.{Option, none, some}
+use native.Mathlib.Omega.{arith}
+use lib.IntN.{ℤ, pos}
+use lib.Dec.{leb, lit≤}
+use lib.ListN.{length}
+use borrow.Author.Tests.{ltb-true}
+use Rattle.values.specs.Integers.{low}
+use Rattle.rules.specs.Asked.{Asked, passed, _else_, _>>_}
+use Rattle.rules.specs.Forms.{Row, Operand, Format, alone, implied, byte, short, index, index2, index-const, branch, branch4, table, pairs, widened}
+use Rattle.rules.specs.Instructions.{rowOf}
+use Rattle.rules.specs.Fetch.{Instruction, instruction, operands, u8, u16, s16, widens, wideOpcode, sized, tableAsked, lookupAsked, wideAsked, byFormat, fetched}
+use Rattle.rules.proofs.Rows.{own-opcode, upTo, agree, isSome}
+use Rattle.rules.proofs.Questions.{of-core, not-core, wide-iinc, wide-local}
+use Rattle.operands.specs.declared.switches.Switch.{Switch}
+use Rattle.operands.specs.Switch.{switchOf}
+use Rattle.instructions.specs.declared.decoding.Decoded.{Decoded}
+use Rattle.instructions.specs.declared.decoding.Decoded.the-variants as Decoded
+use Rattle.instructions.specs.Table.{lengthOf, formatOf, entryOf}
+use Rattle.instructions.specs.Decode.{decoded}
+use Rattle.instructions.specs.Stages.{fields, fieldsOf, sizedOf, switchDecoded}
+use Rattle.instructions.proofs.Entries.{digits, impliedFew}
+
+-- what an instruction's format makes of its entry e: a length and operands, a table, pairs, or what follows WIDE
+data Class (code : List ℕ) (pc e : ℕ) (r : Row) (f : Format) : Type 0 where
+  of-fixed-length : 0 < lengthOf f → lengthOf f < 254 → sizedOf code pc e (lengthOf f) (fieldsOf code pc (formatOf f)) ≡ decoded (byFormat code pc r f) → Class code pc e r f
+  of-table : lengthOf f ≡ 0 → formatOf f ≡ 11 → switchDecoded e (switchOf (tableAsked code pc r)) ≡ decoded (byFormat code pc r f) → Class code pc e r f
+  of-pairs : lengthOf f ≡ 0 → formatOf f ≡ 12 → switchDecoded e (switchOf (lookupAsked code pc r)) ≡ decoded (byFormat code pc r f) → Class code pc e r f
+  of-wide : lengthOf f ≡ 254 → decoded (wideAsked code pc) ≡ decoded (byFormat code pc r f) → Class code pc e r f
+
+-- e is the entry of the row r
+module _ (code : List ℕ) (pc e : ℕ) (r : Row) (E : entryOf (rowOf (r .opcode)) ≡ e) where
+  -- an instruction of n bytes
+  pub sized-is : (n : ℕ) (o : Operand) → sizedOf code pc e n (fields (o .index) (low 32 (o .constant))) ≡ decoded (sized code pc r n o)
+  unfolding decoded sizedOf _else_ _>>_
+  sized-is n o = go (leb (pc + n) (length code))
+    where
+      go : (t : Bool) → cond t (Decoded.Instruction e n (o .index) (low 32 (o .constant))) (Decoded.Refused 5) ≡ decoded ((t else 5) >> passed (instruction r n o))
+      go true = rw E
+      go false = refl
+
+  -- a switch
+  Alike : Asked Instruction → Type 0
+  Alike x = switchDecoded e (switchOf x) ≡ decoded x
+
+  asked : (t : Bool) (n : ℕ) (x : Asked Instruction) → Alike x → Alike ((t else n) >> x)
+  unfolding Alike decoded switchOf _else_ _>>_
+  asked true n x h = h
+  asked false n x h = refl
+
+  accepted : (n : ℕ) (c : ℤ) (ps : List (ℤ × ℤ)) → Alike (passed (instruction r n (operands 0 c ps)))
+  unfolding Alike decoded switchOf
+  accepted n c ps = rw E
+
+  pub table-is : switchDecoded e (switchOf (tableAsked code pc r)) ≡ decoded (tableAsked code pc r)
+  unfolding Alike tableAsked
+  table-is = asked _ 5 _ (asked _ 6 _ (asked _ 5 _ (accepted _ _ _)))
+
+  pub lookup-is : switchDecoded e (switchOf (lookupAsked code pc r)) ≡ decoded (lookupAsked code pc r)
+  unfolding Alike lookupAsked
+  lookup-is = asked _ 5 _ (asked _ 6 _ (asked _ 5 _ (asked _ 6 _ (accepted _ _ _))))
+
+  -- ---- by the format
+
+  fixed : (f : Format) (n : ℕ) (o : Operand) → fieldsOf code pc (formatOf f) ≡ fields (o .index) (low 32 (o .constant))
+      → sizedOf code pc e n (fieldsOf code pc (formatOf f)) ≡ decoded (sized code pc r n o)
+  fixed f n o s = ap (sizedOf code pc e n) s ∙ sized-is n o
+
+  class : (f : Format) → impliedFew f ≡ true → Class code pc e r f
+  unfolding fieldsOf low
+  class alone w = of-fixed-length (lit≤ tt) (lit≤ tt) (fixed alone 1 _ refl)
+  class (implied zero) w = of-fixed-length (lit≤ tt) (lit≤ tt) (fixed (implied 0) 1 _ refl)
+  class (implied (suc zero)) w = of-fixed-length (lit≤ tt) (lit≤ tt) (fixed (implied 1) 1 _ refl)
+  class (implied (suc (suc zero))) w = of-fixed-length (lit≤ tt) (lit≤ tt) (fixed (implied 2) 1 _ refl)
+  class (implied (suc (suc (suc zero)))) w = of-fixed-length (lit≤ tt) (lit≤ tt) (fixed (implied 3) 1 _ refl)
+  class (implied (suc (suc (suc (suc n))))) w = let l = ltb-true (suc (suc (suc (suc n)))) 4 w in absurd (omega arith)
+  class byte w = of-fixed-length (lit≤ tt) (lit≤ tt) (fixed byte 2 _ refl)
+  class short w = of-fixed-length (lit≤ tt) (lit≤ tt) (fixed short 3 _ refl)
+  class index w = of-fixed-length (lit≤ tt) (lit≤ tt) (fixed index 2 _ refl)
+  class index2 w = of-fixed-length (lit≤ tt) (lit≤ tt) (fixed index2 3 _ refl)
+  class index-const w = of-fixed-length (lit≤ tt) (lit≤ tt) (fixed index-const 3 _ refl)
+  class branch w = of-fixed-length (lit≤ tt) (lit≤ tt) (fixed branch 3 _ refl)
+  class branch4 w = of-fixed-length (lit≤ tt) (lit≤ tt) (fixed branch4 5 _ refl)
+  class table w = of-table refl refl table-is
+  class pairs w = of-pairs refl refl lookup-is
+  class widened w = of-wide refl refl
+
+-- ---- what the digits of the entry at an offset say of the instruction there
+
+module _ (code : List ℕ) (pc : ℕ) where
+  abbrev pub here : ℕ
+  here = entryOf (rowOf (u8 code pc))
+
+  owned : (r : Row) → rowOf (u8 code pc) ≡ some r → entryOf (rowOf (r .opcode)) ≡ here
+  owned r at = ap (λ (n : ℕ). entryOf (rowOf n)) (own-opcode (u8 code pc) r at)
+
+  record OfRow (r : Row) : Type 0 where
+    at : rowOf (u8 code pc) ≡ some r
+    class-of : Class code pc here r (r .format)
+    length-is : here % 0x100 ≡ lengthOf (r .format)
+    format-is : here / 0x100000 % 16 ≡ formatOf (r .format)
+
+  cases : (P : Type 0) → (rowOf (u8 code pc) ≡ none → P) → ((r : Row) → OfRow r → P) → P
+  cases P outside inside = go (rowOf (u8 code pc)) refl
+    where
+      go : (o : Option Row) → rowOf (u8 code pc) ≡ o → P
+      go none e = outside e
+      go (some r) e =
+          let d = digits (u8 code pc) r e in
+          inside r (record {
+            at = e;
+            class-of = class code pc here r (owned r e) (r .format) (d .few);
+            length-is = ap (λ (o : Option Row). entryOf o % 0x100) e ∙ d .length;
+            format-is = ap (λ (o : Option Row). entryOf o / 0x100000 % 16) e ∙ d .format;
+          })
+
+  outside-length : rowOf (u8 code pc) ≡ none → here % 0x100 ≡ 255
+  unfolding entryOf
+  outside-length e = ap (λ (o : Option Row). entryOf o % 0x100) e
+
+  same : (r : Row) → OfRow r → {d : Decoded} → d ≡ decoded (byFormat code pc r (r .format)) → d ≡ decoded (fetched code pc)
+  same r o p = p ∙ ap decoded (sym (of-core code pc r (o .at)))
+
+  pub no-instruction : here % 0x100 ≡ 255 → Decoded.Refused 4 ≡ decoded (fetched code pc)
+  unfolding decoded
+  no-instruction h = cases _ (λ e. ap decoded (sym (not-core code pc e))) (λ r o. go r (o .length-is) (o .class-of))
+    where
+      go : (r : Row) → here % 0x100 ≡ lengthOf (r .format) → Class code pc here r (r .format) → Decoded.Refused 4 ≡ decoded (fetched code pc)
+      go r l (of-fixed-length a b s) = absurd (omega arith)
+      go r l (of-table a b s) = absurd (omega arith)
+      go r l (of-pairs a b s) = absurd (omega arith)
+      go r l (of-wide a s) = absurd (omega arith)
+
+  pub wide-instruction : here % 0x100 ≡ 254 → decoded (wideAsked code pc) ≡ decoded (fetched code pc)
+  wide-instruction h = cases _ (λ e. let z = outside-length e in absurd (omega arith)) (λ r o. same r o (go r (o .length-is) (o .class-of)))
+    where
+      go : (r : Row) → here % 0x100 ≡ lengthOf (r .format) → Class code pc here r (r .format) → decoded (wideAsked code pc) ≡ decoded (byFormat code pc r (r .format))
+      go r l (of-fixed-length a b s) = absurd (omega arith)
+      go r l (of-table a b s) = absurd (omega arith)
+      go r l (of-pairs a b s) = absurd (omega arith)
+      go r l (of-wide a s) = s
+
+  pub table-instruction : (x : Switch) → ((row : Row) → x ≡ switchOf (tableAsked code pc row)) → here % 0x100 ≡ 0 → here / 0x100000 % 16 ≡ 11
+      → switchDecoded here x ≡ decoded (fetched code pc)
+  table-instruction x p h f = cases _ (λ e. let z = outside-length e in absurd (omega arith)) (λ r o. same r o (go r (o .length-is) (o .format-is) (o .class-of)))
+    where
+      go : (r : Row) → here % 0x100 ≡ lengthOf (r .format) → here / 0x100000 % 16 ≡ formatOf (r .format) → Class code pc here r (r .format)
+          → switchDecoded here x ≡ decoded (byFormat code pc r (r .format))
+      go r l k (of-fixed-length a b s) = absurd (omega arith)
+      go r l k (of-table a b s) = ap (switchDecoded here) (p r) ∙ s
+      go r l k (of-pairs a b s) = absurd (omega arith)
+      go r l k (of-wide a s) = absurd (omega arith)
+
+  pub lookup-instruction : (x : Switch) → ((row : Row) → x ≡ switchOf (lookupAsked code pc row)) → here % 0x100 ≡ 0 → (here / 0x100000 % 16 ≡ 11 → ⊥)
+      → switchDecoded here x ≡ decoded (fetched code pc)
+  lookup-instruction x p h f = cases _ (λ e. let z = outside-length e in absurd (omega arith)) (λ r o. same r o (go r (o .length-is) (o .format-is) (o .class-of)))
+    where
+      go : (r : Row) → here % 0x100 ≡ lengthOf (r .format) → here / 0x100000 % 16 ≡ formatOf (r .format) → Class code pc here r (r .format)
+          → switchDecoded here x ≡ decoded (byFormat code pc r (r .format))
+      go r l k (of-fixed-length a b s) = absurd (omega arith)
+      go r l k (of-table a b s) = absurd (f (k ∙ b))
+      go r l k (of-pairs a b s) = ap (switchDecoded here) (p r) ∙ s
+      go r l k (of-wide a s) = absurd (omega arith)
+
+  pub fixed-instruction : (here % 0x100 ≡ 255 → ⊥) → (here % 0x100 ≡ 254 → ⊥) → (here % 0x100 ≡ 0 → ⊥)
+      → sizedOf code pc here (here % 0x100) (fieldsOf code pc (here / 0x100000 % 16)) ≡ decoded (fetched code pc)
+  fixed-instruction h i j = cases _ (λ e. absurd (h (outside-length e))) (λ r o. same r o (go r (o .length-is) (o .format-is) (o .class-of)))
+    where
+      go : (r : Row) → here % 0x100 ≡ lengthOf (r .format) → here / 0x100000 % 16 ≡ formatOf (r .format) → Class code pc here r (r .format)
+          → sizedOf code pc here (here % 0x100) (fieldsOf code pc (here / 0x100000 % 16)) ≡ decoded (byFormat code pc r (r .format))
+      go r l k (of-fixed-length a b s) = ap₂ (λ (n f : ℕ). sizedOf code pc here n (fieldsOf code pc f)) l k ∙ s
+      go r l k (of-table a b s) = absurd (j (l ∙ a))
+      go r l k (of-pairs a b s) = absurd (j (l ∙ a))
+      go r l k (of-wide a s) = absurd (i (l ∙ a))
+
+-- ---- WIDE
+
+-- what WIDE takes is core: computed over all 256
+widened-core : map (λ n. cond (widens n) (isSome (rowOf n)) true) (upTo 256) ≡ map (λ n. true) (upTo 256)
+unfolding rowOf
+widened-core = refl
+
+module _ (code : List ℕ) (pc : ℕ) (there : pc + 1 < length code) (allowed : widens (wideOpcode code pc) ≡ true) (B : wideOpcode code pc < 256) where
+  wide-row : (P : Type 0) → ((r : Row) → rowOf (wideOpcode code pc) ≡ some r → P) → P
+  wide-row P k = go (rowOf (wideOpcode code pc)) refl
+    where
+      core : isSome (rowOf (wideOpcode code pc)) ≡ true
+      core = rw allowed at (agree (λ n. cond (widens n) (isSome (rowOf n)) true) (λ n. true) 256 widened-core (wideOpcode code pc) B)
+
+      go : (o : Option Row) → rowOf (wideOpcode code pc) ≡ o → P
+      go none e = let z : false ≡ true = ap isSome (sym e) ∙ core in let y : _≡_ {A = ℕ} 0 1 = cc in absurd (omega arith)
+      go (some r) e = k r e
+
+  pub wide-increment : wideOpcode code pc ≡ 132
+      → sizedOf code pc (entryOf (rowOf (wideOpcode code pc))) 6 (fields (u16 code (pc + 2)) (low 32 (s16 code (pc + 4)))) ≡ decoded (wideAsked code pc)
+  wide-increment h = wide-row _ (λ r e.
+      sized-is code pc (entryOf (rowOf (wideOpcode code pc))) r (ap (λ (n : ℕ). entryOf (rowOf n)) (own-opcode (wideOpcode code pc) r e)) 6 (operands (u16 code (pc + 2)) (s16 code (pc + 4)) [])
+      ∙ ap decoded (sym (wide-iinc code pc there allowed r e h)))
+
+  pub wide-other : (wideOpcode code pc ≡ 132 → ⊥)
+      → sizedOf code pc (entryOf (rowOf (wideOpcode code pc))) 4 (fields (u16 code (pc + 2)) 0) ≡ decoded (wideAsked code pc)
+  unfolding low
+  wide-other h = wide-row _ (λ r e.
+      sized-is code pc (entryOf (rowOf (wideOpcode code pc))) r (ap (λ (n : ℕ). entryOf (rowOf n)) (own-opcode (wideOpcode code pc) r e)) 4 (operands (u16 code (pc + 2)) (pos 0) [])
+      ∙ ap decoded (sym (wide-local code pc there allowed r e h)))

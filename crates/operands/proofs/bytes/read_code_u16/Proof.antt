@@ -1,0 +1,48 @@
+-- `read_code_u16` meets its contract. Assumes nothing.
+use mathlib.Core.Path.{sym}
+use denote.Ref.{now}
+use Rattle.operands.proofs.Readings.{u16-past}
+use borrow.Author.Needs.{needs}
+use Rattle.operands.proofs.bytes.read_code_u16.Statement.{statement}
+use Rattle.operands.proofs.bytes.read_code_u16.Tie as tie
+
+returns : tie.Need-returns
+returns c = sym (u16-past (now (c .before .before .args .code)) (c .before .before .args .at) (c .if1 .taken))
+
+read-code-u8-requires : tie.Need-read-code-u8-requires
+read-code-u8-requires c κs = search needs
+
+add-read-code-u8 : tie.Need-add-read-code-u8
+add-read-code-u8 c = search needs
+
+read-code-u8-requires-2 : tie.Need-read-code-u8-requires-2
+read-code-u8-requires-2 c κs = search needs
+
+cast-result : tie.Need-cast-result
+cast-result c = search needs
+
+mul-result : tie.Need-mul-result
+mul-result c = search needs
+
+cast-result-2 : tie.Need-cast-result-2
+cast-result-2 c = search needs
+
+add-result : tie.Need-add-result
+add-result c = search needs
+
+returns-2 : tie.Need-returns-2
+returns-2 c = search needs
+
+pub read-code-u16-spec : {M : Type 1} → statement M
+read-code-u16-spec =
+    tie.close
+    (tie.spec
+    returns
+    read-code-u8-requires
+    add-read-code-u8
+    read-code-u8-requires-2
+    cast-result
+    mul-result
+    cast-result-2
+    add-result
+    returns-2)
