@@ -1,20 +1,9 @@
 -- Opcodes that share one do the same with the same operand and words, which lie in the same part: computed over the table. Assumes nothing.
 use Prim.Native.Nat.{ℕ}
 use mathlib.Core.Path.{refl}
-use mathlib.Core.List.{List, []}
-use mathlib.Core.Option.{Option, none, some}
-use Rattle.rules.specs.Forms.{Row, Operand, Result, pushes, Source, stack}
 use Rattle.rules.specs.Instructions.{instructions, rowOf}
 use Rattle.rules.proofs.Rows.{OfRow, every-row}
-use Rattle.instructions.specs.Table.{sharedOf}
-
-abbrev pub doesOf : Option Row → Operand → List ℕ → Result
-doesOf none o ws = pushes []
-doesOf (some r) o ws = r .rule .does o ws
-
-abbrev pub readsOf : Option Row → Source
-readsOf none = stack
-readsOf (some r) = r .rule .reads
+use Rattle.instructions.specs.Table.{sharedOf, doesOf, readsOf}
 
 pub shared-does : (n : ℕ) → OfRow (λ r. r .rule .does) (λ r. doesOf (rowOf (sharedOf r))) (rowOf n)
 unfolding instructions rowOf

@@ -12,32 +12,34 @@ use Rattle.values.proofs.Integers.{signed-plus, signed-minus}
 use Rattle.rules.specs.Fetch.{u32, aligned, pairsFrom, pairCount, keyPairs}
 use Rattle.operands.proofs.Readings.{word-means}
 
+-- a count that is not negative, of the pairs from 8 past `at` on
+pub record Counted (code : List ℕ) (pc at count : ℕ) : Type 0 where
+  pub counted : (pos 0 ≤ᶻ pairCount code pc) ≡ true
+  pub many : natAbs (pairCount code pc) ≡ count
+  pub pairs : pairsFrom code (at + 8) count ≡ keyPairs code pc
+
 module _ (code : List ℕ) (pc at count : ℕ) (start : at ≡ aligned pc) (counts : count ≡ u32 code (at + 4)) where
   count-means : signed 31 count ≡ pairCount code pc
   count-means = word-means code (at + 4) count counts ∙ ap (λ (n : ℕ). signed 31 (u32 code (n + 4))) start
 
-  pub count-negative : 2 ^ 31 ≤ count → (pos 0 ≤ᶻ pairCount code pc) ≡ false
-  count-negative h = ap (λ (z : ℤ). pos 0 ≤ᶻ z) (sym count-means ∙ signed-minus 31 count h)
+  pub negative : 2 ^ 31 ≤ count → (pos 0 ≤ᶻ pairCount code pc) ≡ false
+  negative h = ap (λ (z : ℤ). pos 0 ≤ᶻ z) (sym count-means ∙ signed-minus 31 count h)
 
-  pub count-small : (pos 0 ≤ᶻ pairCount code pc) ≡ true → count < 2 ^ 31
-  count-small counted = go (ltb count (2 ^ 31)) refl
+  pub small : (pos 0 ≤ᶻ pairCount code pc) ≡ true → count < 2 ^ 31
+  small counted = go (ltb count (2 ^ 31)) refl
     where
       go : (t : Bool) → ltb count (2 ^ 31) ≡ t → count < 2 ^ 31
       go true e = ltb-true count (2 ^ 31) e
       go false e =
-          let negative = count-negative (ltb-false count (2 ^ 31) e) in
+          let no = negative (ltb-false count (2 ^ 31) e) in
           let z : _≡_ {A = ℕ} 0 1 = cc in
           omega arith
 
-  module _ (small : count < 2 ^ 31) where
-    count-positive : pairCount code pc ≡ pos count
-    count-positive = sym count-means ∙ signed-plus 31 count small
-
-    pub count-not-negative : (pos 0 ≤ᶻ pairCount code pc) ≡ true
-    count-not-negative = ap (λ (z : ℤ). pos 0 ≤ᶻ z) count-positive ∙ le-leb 0 count (omega arith)
-
-    pub count-of : natAbs (pairCount code pc) ≡ count
-    count-of = ap natAbs count-positive
-
-    pub pairs-of : pairsFrom code (at + 8) count ≡ keyPairs code pc
-    pairs-of = ap₂ (pairsFrom code) (ap (λ (n : ℕ). n + 8) start) (sym count-of)
+  pub not-negative : count < 2 ^ 31 → Counted code pc at count
+  not-negative small =
+      let e : pairCount code pc ≡ pos count = sym count-means ∙ signed-plus 31 count small in
+      record {
+        counted = ap (λ (z : ℤ). pos 0 ≤ᶻ z) e ∙ le-leb 0 count (omega arith);
+        many = ap natAbs e;
+        pairs = ap₂ (pairsFrom code) (ap (λ (n : ℕ). n + 8) start) (sym (ap natAbs e));
+      }

@@ -10,11 +10,11 @@ use borrow.Author.Tests.{lt-ltb, le-ltb, eq-eqb, ne-eqb}
 use Rattle.values.specs.Integers.{signed, _=ᶻ_, _≤ᶻ_}
 use Rattle.rules.specs.Forms.{offsetFor}
 use Rattle.rules.specs.Fetch.{u32, s32, aligned, lowKey, highKey, keys, offsetsFrom}
-use Rattle.operands.proofs.Differences.{Difference, same-difference}
+use Rattle.operands.proofs.Differences.{Difference, raised, word-difference}
 use Rattle.operands.proofs.Readings.{word-means}
-use Rattle.operands.proofs.Tables.{raised, minus, in-order, low-key, key-order, key-count}
+use Rattle.operands.proofs.Tables.{raised-sum, distance, low-key, key-order, key-count}
 
--- ---- equality of whole numbers as a test
+-- ---- the test of equality, and sums
 
 equal-to-itself : (x : ℤ) → (x =ᶻ x) ≡ true
 equal-to-itself (pos n) = eq-eqb n n refl
@@ -30,14 +30,11 @@ unequal (negsuc m) (negsuc n) f = ne-eqb m n (λ e. f (ap negsuc e))
 added-nothing : (x z : ℤ) → x +ℤ z ≡ x → z ≡ pos 0
 added-nothing x z e = sym (+ℤ-idl z) ∙ ap (λ (y : ℤ). y +ℤ z) (sym (+ℤ-invl x)) ∙ +ℤ-assoc (negℤ x) x z ∙ ap (λ (y : ℤ). negℤ x +ℤ y) e ∙ +ℤ-invl x
 
-away : (x z : ℤ) → (z ≡ pos 0 → ⊥) → (x +ℤ z =ᶻ x) ≡ false
-away x z f = unequal (x +ℤ z) x (λ e. f (added-nothing x z e))
+-- one more and one less
+one-on : (x z : ℤ) → x +ℤ pos 1 +ℤ predℤ z ≡ x +ℤ z
+one-on x z = ap (λ (y : ℤ). y +ℤ predℤ z) (+ℤ-one x) ∙ sucℤ-+ℤ x (predℤ z) ∙ ap sucℤ (+ℤ-predℤ x z) ∙ suc-pred (x +ℤ z)
 
--- one key on
-one-on : (low z : ℤ) → low +ℤ pos 1 +ℤ predℤ z ≡ low +ℤ z
-one-on low z = ap (λ (y : ℤ). y +ℤ predℤ z) (+ℤ-one low) ∙ sucℤ-+ℤ low (predℤ z) ∙ ap sucℤ (+ℤ-predℤ low z) ∙ suc-pred (low +ℤ z)
-
--- ---- the entry of the key that is z past the lowest, among n entries
+-- ---- the key that is z past the lowest, among n
 
 unfoldable entry : List ℕ → ℤ → ℕ → ℕ → ℤ → ℤ
 entry code default at n (pos i) = cond (ltb i n) (s32 code (at + 4 * i)) default
@@ -48,7 +45,7 @@ module _ (code : List ℕ) (default : ℤ) where
       → offsetFor (low +ℤ z) default (offsetsFrom code at low (suc n)) ≡ offsetFor (low +ℤ pos 1 +ℤ predℤ z) default (offsetsFrom code (at + 4) (low +ℤ pos 1) n)
   unfolding offsetsFrom
   later n at low z f =
-      ap (λ (t : Bool). cond t (s32 code at) (offsetFor (low +ℤ z) default (offsetsFrom code (at + 4) (low +ℤ pos 1) n))) (away low z f)
+      ap (λ (t : Bool). cond t (s32 code at) (offsetFor (low +ℤ z) default (offsetsFrom code (at + 4) (low +ℤ pos 1) n))) (unequal (low +ℤ z) low (λ e. f (added-nothing low z e)))
       ∙ ap (λ (key : ℤ). offsetFor key default (offsetsFrom code (at + 4) (low +ℤ pos 1) n)) (sym (one-on low z))
 
   entry-of : (n at : ℕ) (low z : ℤ) → offsetFor (low +ℤ z) default (offsetsFrom code at low n) ≡ entry code default at n z
@@ -63,74 +60,59 @@ module _ (code : List ℕ) (default : ℤ) where
       ∙ rw (lt-ltb 0 (suc n) (omega arith))
   entry-of (suc n) at low (pos (suc i)) =
       let there : at + 4 + 4 * i ≡ at + 4 * suc i = omega arith in
-      later n at low (pos (suc i)) (λ e. omega (arith, ap natAbs e)) ∙ entry-of n (at + 4) (low +ℤ pos 1) (pos i) ∙ ap₂ (λ (t : Bool) (a : ℕ). cond t (s32 code a) default) (sym (leb·suc-suc (suc i) n)) there
+      later n at low (pos (suc i)) (λ e. omega (arith, ap natAbs e))
+      ∙ entry-of n (at + 4) (low +ℤ pos 1) (pos i)
+      ∙ ap₂ (λ (t : Bool) (a : ℕ). cond t (s32 code a) default) (sym (leb·suc-suc (suc i) n)) there
   entry-of (suc n) at low (negsuc i) = later n at low (negsuc i) (λ e. omega (arith, ap natAbs e)) ∙ entry-of n (at + 4) (low +ℤ pos 1) (negsuc (suc i))
 
--- 2 ^ 31 more than each word
-raised-sum : (a b n : ℕ) → (n + a) % 2 ^ 32 ≡ b → raised b ≡ (n + raised a) % 2 ^ 32
-raised-sum a b n e = omega arith
+-- ---- words: i is how far the key is past the lowest, modulo 2 ^ 32
 
-rearranged : (k i l : ℕ) → k ≡ i + l → k + 2 ^ 31 + 0 ≡ i + (2 ^ 31 + l)
-rearranged k i l e = omega arith
-
--- ---- the same of words: i is how far the key is past the lowest, modulo 2 ^ 32
-
-module _ (low high key span i : ℕ) (S : span < 2 ^ 32) (I : i < 2 ^ 32) (l : low < 2 ^ 32) (h : high < 2 ^ 32) (k : key < 2 ^ 32)
-    (spans : high ≡ (span + low) % 2 ^ 32) (past : key ≡ (i + low) % 2 ^ 32) where
-  up-to-highest : low ≤ high → i ≤ span → key ≡ i + low
-  up-to-highest o h =
-      let e : span + low ≡ high = omega arith in
-      omega arith
-
-  at-its-distance : (m : ℕ) → key ≡ m + low → m ≡ i
-  at-its-distance m e = omega arith
+unwrapped : (low key i m : ℕ) → key < 2 ^ 32 → i < 2 ^ 32 → key ≡ (i + low) % 2 ^ 32 → key ≡ m + low → m ≡ i
+unwrapped low key i m K I past e = omega arith
 
 module _ (low high key span i : ℕ) (L : low < 2 ^ 32) (H : high < 2 ^ 32) (K : key < 2 ^ 32) (S : span < 2 ^ 32) (I : i < 2 ^ 32)
-    (spans : (span + low) % 2 ^ 32 ≡ high) (past : (i + low) % 2 ^ 32 ≡ key) (order : (signed 31 low ≤ᶻ signed 31 high) ≡ true) where
-  inside : i ≤ span → signed 31 key -ℤ signed 31 low ≡ pos i
-  inside h =
-      let e = up-to-highest (raised low) (raised high) (raised key) span i S I (omega arith) (omega arith) (omega arith) (raised-sum low high span spans) (raised-sum low key i past) (in-order low high L H order) h in
-      same-difference (signed 31 key -ℤ signed 31 low) (pos i) (raised key + 2 ^ 31) (2 ^ 31 + raised low) i 0 (minus low key L K) (omega arith) (rearranged (raised key) i (raised low) e)
+    (spans : (span + low) % 2 ^ 32 ≡ high) (past : (i + low) % 2 ^ 32 ≡ key) (order : (signed 31 low ≤ᶻ signed 31 high) ≡ true)
+    (code : List ℕ) (default : ℤ) (at : ℕ) where
+  abbrev found : ℤ
+  found = offsetFor (signed 31 key) default (offsetsFrom code at (signed 31 low) (span + 1))
 
-  module _ (code : List ℕ) (default : ℤ) (at : ℕ) where
-    outside : span < i → (z : ℤ) → Difference z (raised key + 2 ^ 31) (2 ^ 31 + raised low) → entry code default at (span + 1) z ≡ default
-    unfolding entry
-    outside h (pos m) d =
-        let e = at-its-distance (raised low) (raised high) (raised key) span i S I (omega arith) (omega arith) (omega arith) (raised-sum low high span spans) (raised-sum low key i past) m (omega (arith, d)) in
-        let k : span + 1 ≤ m = omega (arith, e) in
-        rw (le-ltb m (span + 1) k)
-    outside h (negsuc m) d = refl
+  found-is : found ≡ entry code default at (span + 1) (signed 31 key -ℤ signed 31 low)
+  found-is =
+      ap (λ (k : ℤ). offsetFor k default (offsetsFrom code at (signed 31 low) (span + 1))) (sym (+ℤ-comm (signed 31 low) (signed 31 key -ℤ signed 31 low) ∙ -ℤ-+ℤ-cancel (signed 31 key) (signed 31 low)))
+      ∙ entry-of code default (span + 1) at (signed 31 low) (signed 31 key -ℤ signed 31 low)
 
-    found : offsetFor (signed 31 key) default (offsetsFrom code at (signed 31 low) (span + 1)) ≡ entry code default at (span + 1) (signed 31 key -ℤ signed 31 low)
-    found =
-        ap (λ (k : ℤ). offsetFor k default (offsetsFrom code at (signed 31 low) (span + 1))) (sym (+ℤ-comm (signed 31 low) (signed 31 key -ℤ signed 31 low) ∙ -ℤ-+ℤ-cancel (signed 31 key) (signed 31 low)))
-        ∙ entry-of code default (span + 1) at (signed 31 low) (signed 31 key -ℤ signed 31 low)
+  own-entry : i ≤ span → found ≡ s32 code (at + 4 * i)
+  unfolding entry
+  own-entry h = found-is ∙ ap (entry code default at (span + 1)) (distance low high key span i L H K S spans past order h) ∙ rw (lt-ltb i (span + 1) (omega arith))
 
-    pub own-entry : i ≤ span → offsetFor (signed 31 key) default (offsetsFrom code at (signed 31 low) (span + 1)) ≡ s32 code (at + 4 * i)
-    unfolding entry
-    own-entry h = found ∙ ap (entry code default at (span + 1)) (inside h) ∙ rw (lt-ltb i (span + 1) (omega arith))
+  no-entry : span < i → found ≡ default
+  unfolding entry
+  no-entry h = found-is ∙ outside (signed 31 key -ℤ signed 31 low) (word-difference 31 low key L K)
+    where
+      outside : (z : ℤ) → Difference z (raised 31 key + 2 ^ 31) (2 ^ 31 + raised 31 low) → entry code default at (span + 1) z ≡ default
+      outside (pos m) d =
+          let e = unwrapped (raised 31 low) (raised 31 key) i m (omega arith) I (raised-sum low key i past) (omega (arith, d)) in
+          rw (le-ltb m (span + 1) (omega (arith, e)))
+      outside (negsuc m) d = refl
 
-    pub no-entry : span < i → offsetFor (signed 31 key) default (offsetsFrom code at (signed 31 low) (span + 1)) ≡ default
-    no-entry h = found ∙ outside h (signed 31 key -ℤ signed 31 low) (minus low key L K)
-
--- ---- the same of the words that were read
+-- ---- the words that were read
 
 module _ (code : List ℕ) (pc at low high key span i : ℕ) (start : at ≡ aligned pc) (lowest : low ≡ u32 code (at + 4)) (highest : high ≡ u32 code (at + 8))
     (L : low < 2 ^ 32) (H : high < 2 ^ 32) (K : key < 2 ^ 32) (S : span < 2 ^ 32) (I : i < 2 ^ 32)
     (spans : (span + low) % 2 ^ 32 ≡ high) (past : (i + low) % 2 ^ 32 ≡ key) (order : (lowKey code pc ≤ᶻ highKey code pc) ≡ true) where
+  abbrev offset : ℤ
+  offset = offsetFor (signed 31 key) (s32 code (aligned pc)) (offsetsFrom code (aligned pc + 12) (lowKey code pc) (keys code pc))
+
   words-in-order : (signed 31 low ≤ᶻ signed 31 high) ≡ true
   words-in-order = key-order code pc at low high start lowest highest (signed 31 low ≤ᶻ signed 31 high) refl ∙ order
 
-  abbrev offset-in-table : ℤ
-  offset-in-table = offsetFor (signed 31 key) (s32 code (aligned pc)) (offsetsFrom code (aligned pc + 12) (lowKey code pc) (keys code pc))
-
-  table-of : offsetFor (signed 31 key) (s32 code (aligned pc)) (offsetsFrom code (at + 12) (signed 31 low) (span + 1)) ≡ offset-in-table
+  table-of : offsetFor (signed 31 key) (s32 code (aligned pc)) (offsetsFrom code (at + 12) (signed 31 low) (span + 1)) ≡ offset
   table-of =
       ap (λ (n : ℕ). offsetFor (signed 31 key) (s32 code (aligned pc)) (offsetsFrom code (at + 12) (signed 31 low) n)) (sym (key-count code pc at low high start lowest highest span L H S spans words-in-order))
       ∙ ap₂ (λ (a : ℕ) (z : ℤ). offsetFor (signed 31 key) (s32 code (aligned pc)) (offsetsFrom code (a + 12) z (keys code pc))) start (low-key code pc at low high start lowest highest)
 
-  pub entry-read : (r : ℕ) → r ≡ u32 code (at + 12 + 4 * i) → i ≤ span → signed 31 r ≡ offset-in-table
+  pub entry-read : (r : ℕ) → r ≡ u32 code (at + 12 + 4 * i) → i ≤ span → signed 31 r ≡ offset
   entry-read r e h = word-means code (at + 12 + 4 * i) r e ∙ sym (own-entry low high key span i L H K S I spans past words-in-order code (s32 code (aligned pc)) (at + 12) h) ∙ table-of
 
-  pub default-read : (r : ℕ) → r ≡ u32 code at → span < i → signed 31 r ≡ offset-in-table
+  pub default-read : (r : ℕ) → r ≡ u32 code at → span < i → signed 31 r ≡ offset
   default-read r e h = word-means code at r e ∙ ap (λ (a : ℕ). s32 code a) start ∙ sym (no-entry low high key span i L H K S I spans past words-in-order code (s32 code (aligned pc)) (at + 12) h) ∙ table-of

@@ -1,4 +1,4 @@
--- What the bytes of the code read as: 0 past its end, and at most 32 bits of which nothing is lost. Assumes nothing.
+-- What the bytes of the code read as: 0 past its end, words of 32 bits, and what they mean. Assumes nothing.
 use Prim.Native.Nat.{ℕ, _+_, _^_, _≤_, _<_}
 use mathlib.Core.Path.{_≡_, sym, ap, _∙_}
 use mathlib.Core.List.{List}
@@ -22,8 +22,8 @@ module _ (code : List ℕ) where
   pub u32-below : (at : ℕ) → ((i : ℕ) → u8 code i < 256) → u32 code at < 2 ^ 32
   u32-below at bytes = omega (arith, bytes at, bytes (at + 1), bytes (at + 2), bytes (at + 2 + 1))
 
-  pub low-s32 : (at : ℕ) → u32 code at < 2 ^ 32 → low 32 (s32 code at) ≡ u32 code at
-  low-s32 at h = low-word 31 (u32 code at) h
+  pub low-s32 : (at : ℕ) → ((i : ℕ) → u8 code i < 256) → low 32 (s32 code at) ≡ u32 code at
+  low-s32 at bytes = low-word 31 (u32 code at) (u32-below at bytes)
 
   -- a word r that was read
   module _ (at r : ℕ) (reads : r ≡ u32 code at) where

@@ -5,12 +5,14 @@ use mathlib.Core.Bool.{Bool, true, false, cond}
 use mathlib.Core.List.{List}
 use native.Mathlib.Omega.{arith}
 use lib.Dec.{ltb, leb·suc-suc}
-use lib.IntN.{ℤ}
+use lib.IntN.{ℤ, pos}
 use borrow.Author.Tests.{lt-ltb, le-ltb}
-use Rattle.values.specs.Integers.{_=ᶻ_}
+use Rattle.values.specs.Integers.{signed, _=ᶻ_, _≤ᶻ_}
 use Rattle.rules.specs.Forms.{offsetFor}
-use Rattle.rules.specs.Fetch.{s32, pairsFrom}
+use Rattle.rules.specs.Fetch.{u32, s32, aligned, pairsFrom, pairCount, keyPairs}
 use Rattle.operands.specs.Switch.{keyIndex}
+use Rattle.operands.proofs.Readings.{word-means}
+use Rattle.operands.proofs.Counts.{small, not-negative}
 use Rattle.operands.proofs.Pairs.{rest, keyAt, rest-none, rest-next}
 
 module _ (code : List ℕ) (key : ℤ) where
@@ -51,8 +53,24 @@ module _ (code : List ℕ) (key : ℤ) where
             let there : at + 8 + 8 * k + 4 ≡ at + 8 * suc k + 4 = omega arith in
             e ∙ ap₂ (λ (t : Bool) (a : ℕ). cond t (s32 code a) default) (sym (leb·suc-suc (suc k) n)) there
 
-    pub offset-found : (n at i : ℕ) → i ≡ keyIndex key (pairsFrom code at n) → i < n → offsetFor key default (pairsFrom code at n) ≡ s32 code (at + 8 * i + 4)
+    offset-found : (n at i : ℕ) → i ≡ keyIndex key (pairsFrom code at n) → i < n → offsetFor key default (pairsFrom code at n) ≡ s32 code (at + 8 * i + 4)
     offset-found n at i e h = offset-of n at ∙ ap (λ (k : ℕ). cond (ltb k n) (s32 code (at + 8 * k + 4)) default) (sym e) ∙ rw (lt-ltb i n h)
 
-    pub offset-missing : (n at i : ℕ) → i ≡ keyIndex key (pairsFrom code at n) → n ≤ i → offsetFor key default (pairsFrom code at n) ≡ default
+    offset-missing : (n at i : ℕ) → i ≡ keyIndex key (pairsFrom code at n) → n ≤ i → offsetFor key default (pairsFrom code at n) ≡ default
     offset-missing n at i e h = offset-of n at ∙ ap (λ (k : ℕ). cond (ltb k n) (s32 code (at + 8 * k + 4)) default) (sym e) ∙ rw (le-ltb i n h)
+
+-- ---- the words that were read
+
+module _ (code : List ℕ) (pc at count key i : ℕ) (start : at ≡ aligned pc) (counts : count ≡ u32 code (at + 4))
+    (index : i ≡ keyIndex (signed 31 key) (pairsFrom code (at + 8) count)) (counted : (pos 0 ≤ᶻ pairCount code pc) ≡ true) where
+  abbrev offset : ℤ
+  offset = offsetFor (signed 31 key) (s32 code (aligned pc)) (keyPairs code pc)
+
+  pairs-of : offsetFor (signed 31 key) (s32 code (aligned pc)) (pairsFrom code (at + 8) count) ≡ offset
+  pairs-of = ap (offsetFor (signed 31 key) (s32 code (aligned pc))) (not-negative code pc at count start counts (small code pc at count start counts counted) .pairs)
+
+  pub pair-read : (r : ℕ) → r ≡ u32 code (at + 8 + 8 * i + 4) → i < count → signed 31 r ≡ offset
+  pair-read r e h = word-means code (at + 8 + 8 * i + 4) r e ∙ sym (offset-found code (signed 31 key) (s32 code (aligned pc)) count (at + 8) i index h) ∙ pairs-of
+
+  pub default-read : (r : ℕ) → r ≡ u32 code at → count ≤ i → signed 31 r ≡ offset
+  default-read r e h = word-means code at r e ∙ ap (λ (a : ℕ). s32 code a) start ∙ sym (offset-missing code (signed 31 key) (s32 code (aligned pc)) count (at + 8) i index h) ∙ pairs-of

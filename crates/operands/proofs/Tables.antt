@@ -1,31 +1,35 @@
--- TABLESWITCH: how many keys its table has, by its lowest and highest word. Assumes nothing.
+-- TABLESWITCH: how far a key is past the lowest, and how many keys there are, by the words that were read. Assumes nothing.
 use Prim.Native.Nat.{ℕ, _+_, _%_, _^_, _≤_, _<_}
 use mathlib.Core.Path.{_≡_, ap, ap₂, _∙_}
 use mathlib.Core.Bool.{Bool, true}
 use mathlib.Core.List.{List}
 use native.Mathlib.Omega.{arith}
-use lib.IntN.{ℤ, pos, negℤ, _-ℤ_}
+use native.Mathlib.Nat.{le-refl}
+use lib.IntN.{ℤ, pos, _-ℤ_}
 use Rattle.values.specs.Integers.{signed, _≤ᶻ_}
 use Rattle.rules.specs.Fetch.{u32, aligned, lowKey, highKey, keys}
-use Rattle.operands.proofs.Differences.{Difference, signed-difference, sum-difference, neg-difference, same-difference, ordered}
+use Rattle.operands.proofs.Differences.{raised, same-difference, word-difference, word-order}
 use Rattle.operands.proofs.Readings.{word-means}
 
--- a word, 2 ^ 31 more than what it means
-abbrev pub raised : ℕ → ℕ
-raised a = (a + 2 ^ 31) % 2 ^ 32
+-- a word that is n past another is so 2 ^ 31 higher too
+pub raised-sum : (a b n : ℕ) → (n + a) % 2 ^ 32 ≡ b → raised 31 b ≡ (n + raised 31 a) % 2 ^ 32
+raised-sum a b n e = omega arith
 
-module _ (a b : ℕ) (A : a < 2 ^ 32) (B : b < 2 ^ 32) where
-  pub minus : Difference (signed 31 b -ℤ signed 31 a) (raised b + 2 ^ 31) (2 ^ 31 + raised a)
-  minus = sum-difference (signed 31 b) (negℤ (signed 31 a)) (raised b) (2 ^ 31) (2 ^ 31) (raised a) (signed-difference 31 b B) (neg-difference (signed 31 a) (raised a) (2 ^ 31) (signed-difference 31 a A))
+-- no wrap up to the highest
+no-wrap : (low high key span i : ℕ) → low ≤ high → high < 2 ^ 32 → span < 2 ^ 32 → high ≡ (span + low) % 2 ^ 32 → key ≡ (i + low) % 2 ^ 32 → i ≤ span → key ≡ i + low
+no-wrap low high key span i o H S spans past h =
+    let e : span + low ≡ high = omega arith in
+    omega arith
 
-  pub in-order : (signed 31 a ≤ᶻ signed 31 b) ≡ true → raised a ≤ raised b
-  in-order h = ordered (raised a) (raised b) (2 ^ 31) (signed 31 a) (signed 31 b) (signed-difference 31 a A) (signed-difference 31 b B) h
-
-  -- how far b is past a
-  pub span-between : (span : ℕ) → span < 2 ^ 32 → (span + a) % 2 ^ 32 ≡ b → (signed 31 a ≤ᶻ signed 31 b) ≡ true → signed 31 b -ℤ signed 31 a ≡ pos span
-  span-between span S w h =
-      let o = in-order h in
-      same-difference (signed 31 b -ℤ signed 31 a) (pos span) (raised b + 2 ^ 31) (2 ^ 31 + raised a) span 0 minus (omega arith) (omega arith)
+module _ (low high key span i : ℕ) (L : low < 2 ^ 32) (H : high < 2 ^ 32) (K : key < 2 ^ 32) (S : span < 2 ^ 32)
+    (spans : (span + low) % 2 ^ 32 ≡ high) (past : (i + low) % 2 ^ 32 ≡ key) (order : (signed 31 low ≤ᶻ signed 31 high) ≡ true) where
+  pub distance : i ≤ span → signed 31 key -ℤ signed 31 low ≡ pos i
+  distance h =
+      let e = no-wrap (raised 31 low) (raised 31 high) (raised 31 key) span i (word-order 31 low high L H order) (omega arith) S (raised-sum low high span spans) (raised-sum low key i past) h in
+      same-difference (signed 31 key -ℤ signed 31 low) (pos i) (raised 31 key + 2 ^ 31) (2 ^ 31 + raised 31 low) i 0 (word-difference 31 low key L K) (omega arith) (apart (raised 31 key) (raised 31 low) e)
+    where
+      apart : (k l : ℕ) → k ≡ i + l → k + 2 ^ 31 + 0 ≡ i + (2 ^ 31 + l)
+      apart k l e = omega arith
 
 module _ (code : List ℕ) (pc at low high : ℕ) (start : at ≡ aligned pc) (lowest : low ≡ u32 code (at + 4)) (highest : high ≡ u32 code (at + 8)) where
   pub low-key : signed 31 low ≡ lowKey code pc
@@ -38,6 +42,6 @@ module _ (code : List ℕ) (pc at low high : ℕ) (start : at ≡ aligned pc) (l
   key-order t e = e ∙ ap₂ (λ (x y : ℤ). x ≤ᶻ y) low-key high-key
 
   pub key-count : (span : ℕ) → low < 2 ^ 32 → high < 2 ^ 32 → span < 2 ^ 32 → (span + low) % 2 ^ 32 ≡ high → (signed 31 low ≤ᶻ signed 31 high) ≡ true → keys code pc ≡ span + 1
-  key-count span L H S w h =
-      let e = span-between low high L H span S w h in
+  key-count span L H S spans order =
+      let e = distance low high high span span L H H S spans spans order (le-refl span) in
       rw (← low-key, ← high-key, e)

@@ -1,5 +1,5 @@
 -- The target of a branch: the place that it names is worked out as 2 ^ 31 more. Assumes nothing.
-use Prim.Native.Nat.{ℕ, _+_, _-_, _%_, _^_, _≤_, _<_}
+use Prim.Native.Nat.{ℕ, _+_, _-_, _^_, _≤_, _<_}
 use mathlib.Core.Path.{_≡_, refl, ap}
 use mathlib.Core.List.{List}
 use native.Mathlib.Omega.{arith}
@@ -11,7 +11,7 @@ use Rattle.rules.specs.Asked.{_else_, _>>_}
 use Rattle.rules.specs.Step.{inside}
 use Rattle.operands.specs.declared.jump.Target.the-variants.{At, Outside}
 use Rattle.operands.specs.Target.{targetOf}
-use Rattle.operands.proofs.Differences.{Difference, signed-difference, sum-difference}
+use Rattle.operands.proofs.Differences.{Difference, raised, signed-difference, sum-difference}
 
 -- the place a - b
 module _ (code : List ℕ) (a b : ℕ) where
@@ -35,18 +35,22 @@ module _ (code : List ℕ) (a b : ℕ) where
       simp (le-ltb n (length code) k)
   past (negsuc n) d h l = absurd (omega arith)
 
-abbrev raised : ℕ → ℕ → ℕ
-raised base offset = base + (offset + 2 ^ 31) % 2 ^ 32
-
 module _ (code : List ℕ) (base offset : ℕ) (word : offset < 2 ^ 32) where
-  away : Difference (pos base +ℤ signed 31 offset) (raised base offset) (2 ^ 31)
-  away = sum-difference (pos base) (signed 31 offset) base 0 ((offset + 2 ^ 31) % 2 ^ 32) (2 ^ 31) (omega arith) (signed-difference 31 offset word)
+  -- the place, and 2 ^ 31 more
+  abbrev place : ℤ
+  place = pos base +ℤ signed 31 offset
 
-  pub before-the-code : raised base offset < 2 ^ 31 → Outside ≡ targetOf (inside code (pos base +ℤ signed 31 offset))
-  before-the-code h = before code (raised base offset) (2 ^ 31) (pos base +ℤ signed 31 offset) away h
+  abbrev sum : ℕ
+  sum = base + raised 31 offset
 
-  pub in-the-code : 2 ^ 31 ≤ raised base offset → raised base offset - 2 ^ 31 < length code → At (raised base offset - 2 ^ 31) ≡ targetOf (inside code (pos base +ℤ signed 31 offset))
-  in-the-code h l = within code (raised base offset) (2 ^ 31) (pos base +ℤ signed 31 offset) away h l
+  place-difference : Difference place sum (2 ^ 31)
+  place-difference = sum-difference (pos base) (signed 31 offset) base 0 (raised 31 offset) (2 ^ 31) (omega arith) (signed-difference 31 offset word)
 
-  pub past-the-code : 2 ^ 31 ≤ raised base offset → length code ≤ raised base offset - 2 ^ 31 → Outside ≡ targetOf (inside code (pos base +ℤ signed 31 offset))
-  past-the-code h l = past code (raised base offset) (2 ^ 31) (pos base +ℤ signed 31 offset) away h l
+  pub before-the-code : sum < 2 ^ 31 → Outside ≡ targetOf (inside code place)
+  before-the-code h = before code sum (2 ^ 31) place place-difference h
+
+  pub in-the-code : 2 ^ 31 ≤ sum → sum - 2 ^ 31 < length code → At (sum - 2 ^ 31) ≡ targetOf (inside code place)
+  in-the-code h l = within code sum (2 ^ 31) place place-difference h l
+
+  pub past-the-code : 2 ^ 31 ≤ sum → length code ≤ sum - 2 ^ 31 → Outside ≡ targetOf (inside code place)
+  past-the-code h l = past code sum (2 ^ 31) place place-difference h l

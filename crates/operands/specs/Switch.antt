@@ -1,9 +1,10 @@
--- What becomes of a switch by the answers to its questions, and which pair of a LOOKUPSWITCH has a key. Assumes nothing.
+-- A switch by the answers to its questions, the offset that its operand bytes give for a key, and which pair of a LOOKUPSWITCH has a key. Assumes nothing.
 use Prim.Native.Nat.{ℕ, suc}
 use mathlib.Core.Bool.{cond}
 use mathlib.Core.List.{List, [], _∷_}
 use lib.IntN.{ℤ}
 use Rattle.values.specs.Integers.{low, _=ᶻ_}
+use Rattle.rules.specs.Forms.{Operand, offsetFor}
 use Rattle.rules.specs.Asked.{Asked, passed, refused}
 use Rattle.rules.specs.Fetch.{Instruction}
 use Rattle.operands.specs.declared.switches.Switch.{Switch}
@@ -12,6 +13,9 @@ use Rattle.operands.specs.declared.switches.Switch.the-variants.{Accepte
 unfoldable pub switchOf : Asked Instruction → Switch
 switchOf (passed i) = Accepted (i .size) (low 32 (i .operand .constant))
 switchOf (refused n) = Refused n
+
+abbrev pub offsetIn : Operand → ℤ → ℤ
+offsetIn o key = offsetFor key (o .constant) (o .pairs)
 
 -- how many pairs stand before the first that has the key: all of them, where none has it
 unfoldable pub keyIndex : ℤ → List (ℤ × ℤ) → ℕ

@@ -6,12 +6,13 @@ ghost use lib.IntN.{pos};
 ghost use Rattle.values.specs.Kinds.{int};
 ghost use Rattle.values.specs.Integers.{_<ᶻ_, _≤ᶻ_};
 ghost use Rattle.values.specs.Words.{meaning};
-ghost use Rattle.rules.specs.Forms.{Row, offsetFor};
-ghost use Rattle.rules.specs.Fetch.{s32, aligned, offsetsFrom, pairsFrom, rising, lowKey, highKey, keys, tableAsked, pairCount, keyPairs, lookupAsked};
-ghost use Rattle.operands.specs.Switch.{switchOf, keyIndex};
+ghost use Rattle.rules.specs.Forms.{Row};
+ghost use Rattle.rules.specs.Fetch.{aligned, lowKey, highKey, tableOperand, tableAsked, pairsFrom, rising, pairCount, pairsOperand, lookupAsked};
+ghost use Rattle.operands.specs.Switch.{switchOf, offsetIn, keyIndex};
 use crate::bytes::read_code_u32;
 use integers::icmpeq;
 use integers::icmple;
+use integers::icmplt;
 
 // A switch with its length in bytes and its default offset, or the number of the question that it fails.
 pub enum Switch {
@@ -19,8 +20,8 @@ pub enum Switch {
     Refused(u32),
 }
 
-// Where the operands of a switch begin: the next multiple of 4 after the opcode.
-fn table_start(pc: u32) -> usize
+// Where the operands of a switch begin, after the padding: the next multiple of 4 after the opcode.
+fn after_padding(pc: u32) -> usize
     ensures { λ r. ⌜ r ≡ aligned pc ⌝ }
 {
     (pc as usize / 4 + 1) * 4
@@ -30,7 +31,7 @@ fn table_start(pc: u32) -> usize
 pub fn table_switch(code: &[u8], pc: u32) -> Switch
     ensures { λ r. ⌜ ((row : Row) → r ≡ switchOf (tableAsked (now (code .entry)) pc row)) ⌝ }
 {
-    let at = table_start(pc);
+    let at = after_padding(pc);
     if code.len() < at + 12 {
         return Switch::Refused(5);
     }
@@ -44,17 +45,18 @@ pub fn table_switch(code: &[u8], pc: u32) -> Switch
     if code.len() < end {
         return Switch::Refused(5);
     }
+    let size = end - pc as usize;
     Switch::Accepted {
-        size: end - pc as usize,
+        size,
         default: read_code_u32(code, at),
     }
 }
 
 // TABLESWITCH: the offset for a key, the highest key's among them, or the default.
 pub fn table_offset(code: &[u8], pc: u32, key: u32) -> u32
-    ensures { λ r. ⌜ ((lowKey (now (code .entry)) pc ≤ᶻ highKey (now (code .entry)) pc) ≡ true → meaning int r ≡ offsetFor (meaning int key) (s32 (now (code .entry)) (aligned pc)) (offsetsFrom (now (code .entry)) (aligned pc + 12) (lowKey (now (code .entry)) pc) (keys (now (code .entry)) pc))) ⌝ }
+    ensures { λ r. ⌜ ((lowKey (now (code .entry)) pc ≤ᶻ highKey (now (code .entry)) pc) ≡ true → meaning int r ≡ offsetIn (tableOperand (now (code .entry)) pc) (meaning int key)) ⌝ }
 {
-    let at = table_start(pc);
+    let at = after_padding(pc);
     let low = read_code_u32(code, at + 4);
     let high = read_code_u32(code, at + 8);
     let span = std::num::wrapping_sub_u32(high, low);
@@ -70,7 +72,7 @@ pub fn table_offset(code: &[u8], pc: u32, key: u32) -> u32
 fn in_order(a: u32, b: u32) -> bool
     ensures { λ r. ⌜ r ≡ (meaning int a <ᶻ meaning int b) ⌝ }
 {
-    integers::icmplt(a, b)
+    icmplt(a, b)
 }
 
 // Whether the keys of n pairs from an offset on rise strictly.
@@ -98,7 +100,7 @@ fn keys_rise(code: &[u8], at: usize, n: usize) -> bool
 pub fn lookup_switch(code: &[u8], pc: u32) -> Switch
     ensures { λ r. ⌜ ((row : Row) → r ≡ switchOf (lookupAsked (now (code .entry)) pc row)) ⌝ }
 {
-    let at = table_start(pc);
+    let at = after_padding(pc);
     if code.len() < at + 8 {
         return Switch::Refused(5);
     }
@@ -114,13 +116,14 @@ pub fn lookup_switch(code: &[u8], pc: u32) -> Switch
     if !keys_rise(code, at + 8, n) {
         return Switch::Refused(6);
     }
+    let size = end - pc as usize;
     Switch::Accepted {
-        size: end - pc as usize,
+        size,
         default: read_code_u32(code, at),
     }
 }
 
-// How many of n pairs from an offset on stand before the first that has the key; it reads no key after that one.
+// How many of n pairs from an offset on stand before the first that has the key: all n, where none has it.
 fn key_index(code: &[u8], at: usize, n: usize, key: u32) -> usize
     requires { ⌜ at + 8 * n < 2 ^ 64 ⌝ }
     ensures { λ r. ⌜ r ≡ keyIndex (meaning int key) (pairsFrom (now (code .entry)) at n) ⌝ }
@@ -137,9 +140,9 @@ fn key_index(code: &[u8], at: usize, n: usize, key: u32) -> usize
 
 // LOOKUPSWITCH: the offset that stands with a key, or the default.
 pub fn lookup_offset(code: &[u8], pc: u32, key: u32) -> u32
-    ensures { λ r. ⌜ ((pos 0 ≤ᶻ pairCount (now (code .entry)) pc) ≡ true → meaning int r ≡ offsetFor (meaning int key) (s32 (now (code .entry)) (aligned pc)) (keyPairs (now (code .entry)) pc)) ⌝ }
+    ensures { λ r. ⌜ ((pos 0 ≤ᶻ pairCount (now (code .entry)) pc) ≡ true → meaning int r ≡ offsetIn (pairsOperand (now (code .entry)) pc) (meaning int key)) ⌝ }
 {
-    let at = table_start(pc);
+    let at = after_padding(pc);
     let n = read_code_u32(code, at + 4) as usize;
     let i = key_index(code, at + 8, n, key);
     if i < n {

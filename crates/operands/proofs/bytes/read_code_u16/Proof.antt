@@ -1,8 +1,8 @@
 -- `read_code_u16` meets its contract. Assumes nothing.
 use mathlib.Core.Path.{sym}
 use denote.Ref.{now}
-use Rattle.operands.proofs.Readings.{u16-past}
 use borrow.Author.Needs.{needs}
+use Rattle.operands.proofs.Readings.{u16-past}
 use Rattle.operands.proofs.bytes.read_code_u16.Statement.{statement}
 use Rattle.operands.proofs.bytes.read_code_u16.Tie as tie
 

@@ -1,8 +1,8 @@
 -- `read_code_u8` meets its contract. Assumes nothing.
 use mathlib.Core.Path.{sym}
 use denote.Ref.{now}
-use Rattle.operands.proofs.Readings.{u8-past}
 use borrow.Author.Needs.{needs}
+use Rattle.operands.proofs.Readings.{u8-past}
 use Rattle.operands.proofs.bytes.read_code_u8.Statement.{statement}
 use Rattle.operands.proofs.bytes.read_code_u8.Tie as tie
 

@@ -1,16 +1,16 @@
--- `key_index` meets its contract. Assumes nothing.
+-- `key_index` meets its contract. The loop's invariant: i pairs stand before what is left, and none of them has the key. The measure is what is left of n. Assumes nothing.
 use Prim.Native.Nat.{_+_, _-_, _*_, _≤_}
 use mathlib.Core.Path.{_≡_, sym, ap, _∙_}
 use native.Mathlib.Omega.{arith}
 use denote.Ref.{now}
 use lib.IntN.{ℤ}
+use borrow.Author.Needs.{needs}
 use Rattle.values.specs.Integers.{signed, _=ᶻ_}
 use Rattle.rules.specs.Fetch.{pairsFrom}
 use Rattle.operands.specs.Switch.{keyIndex}
 use Rattle.operands.proofs.Readings.{word-means}
 use Rattle.operands.proofs.Pairs.{rest, keyAt, rest-all}
 use Rattle.operands.proofs.Search.{index-end, index-here, index-next}
-use borrow.Author.Needs.{needs}
 use Rattle.operands.proofs.switches.key_index.Statement.{statement}
 use Rattle.operands.proofs.switches.key_index.Tie as tie
 

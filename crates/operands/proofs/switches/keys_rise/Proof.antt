@@ -1,15 +1,15 @@
--- `keys_rise` meets its contract. Assumes nothing.
+-- `keys_rise` meets its contract. The loop's invariant: the keys rise if those from i on rise from the last one. The measure is what is left of n. Assumes nothing.
 use Prim.Native.Nat.{_+_, _-_, _*_, _≤_}
 use mathlib.Core.Path.{_≡_, sym, ap, _∙_}
 use native.Mathlib.Omega.{arith}
 use denote.Ref.{now}
 use lib.IntN.{ℤ}
+use borrow.Author.Needs.{needs}
 use borrow.Author.Tests.{not-true, not-false}
 use Rattle.values.specs.Integers.{signed, _<ᶻ_}
 use Rattle.rules.specs.Fetch.{pairsFrom, risingFrom, rising}
 use Rattle.operands.proofs.Readings.{word-means}
 use Rattle.operands.proofs.Pairs.{rest, keyAt, rising-none, rising-first, rising-end, rising-next, rising-no}
-use borrow.Author.Needs.{needs}
 use Rattle.operands.proofs.switches.keys_rise.Statement.{statement}
 use Rattle.operands.proofs.switches.keys_rise.Tie as tie
 

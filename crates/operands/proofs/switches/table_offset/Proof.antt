@@ -1,13 +1,13 @@
 -- `table_offset` meets its contract. Assumes nothing.
 use native.Mathlib.Omega.{arith}
 use denote.Ref.{now}
-use Rattle.operands.proofs.Entries.{entry-read, default-read}
 use borrow.Author.Needs.{needs}
+use Rattle.operands.proofs.Entries.{entry-read, default-read}
 use Rattle.operands.proofs.switches.table_offset.Statement.{statement}
 use Rattle.operands.proofs.switches.table_offset.Tie as tie
 
-table-start-requires : tie.Need-table-start-requires
-table-start-requires c κs = search needs
+after-padding-requires : tie.Need-after-padding-requires
+after-padding-requires c κs = search needs
 
 add-read-code-u32 : tie.Need-add-read-code-u32
 add-read-code-u32 c = search needs
@@ -53,8 +53,8 @@ returns c =
     let low = high .before in
     let place = low .before in
     let s = place .before .before in
-    λ order. entry-read (now (s .args .code)) (s .args .pc) (place .table-start .result) (low .read-code-u32 .result) (high .read-code-u322 .result) (s .args .key) (spans .wrapping-sub-u32 .result) (past .wrapping-sub-u322 .result)
-    (place .table-start .ensures) (low .read-code-u32 .ensures) (high .read-code-u322 .ensures)
+    λ order. entry-read (now (s .args .code)) (s .args .pc) (place .after-padding .result) (low .read-code-u32 .result) (high .read-code-u322 .result) (s .args .key) (spans .wrapping-sub-u32 .result) (past .wrapping-sub-u322 .result)
+    (place .after-padding .ensures) (low .read-code-u32 .ensures) (high .read-code-u322 .ensures)
     (omega (arith, low .read-code-u32 .ok)) (omega (arith, high .read-code-u322 .ok)) (s .fits .key .fits) (omega (arith, spans .wrapping-sub-u32 .ok)) (omega (arith, past .wrapping-sub-u322 .ok))
     (spans .wrapping-sub-u32 .ensures) (past .wrapping-sub-u322 .ensures) order (c .read-code-u323 .result) (c .read-code-u323 .ensures) (c .before .if1 .taken)
 
@@ -66,8 +66,8 @@ returns-2 c =
     let low = high .before in
     let place = low .before in
     let s = place .before .before in
-    λ order. default-read (now (s .args .code)) (s .args .pc) (place .table-start .result) (low .read-code-u32 .result) (high .read-code-u322 .result) (s .args .key) (spans .wrapping-sub-u32 .result) (past .wrapping-sub-u322 .result)
-    (place .table-start .ensures) (low .read-code-u32 .ensures) (high .read-code-u322 .ensures)
+    λ order. default-read (now (s .args .code)) (s .args .pc) (place .after-padding .result) (low .read-code-u32 .result) (high .read-code-u322 .result) (s .args .key) (spans .wrapping-sub-u32 .result) (past .wrapping-sub-u322 .result)
+    (place .after-padding .ensures) (low .read-code-u32 .ensures) (high .read-code-u322 .ensures)
     (omega (arith, low .read-code-u32 .ok)) (omega (arith, high .read-code-u322 .ok)) (s .fits .key .fits) (omega (arith, spans .wrapping-sub-u32 .ok)) (omega (arith, past .wrapping-sub-u322 .ok))
     (spans .wrapping-sub-u32 .ensures) (past .wrapping-sub-u322 .ensures) order (c .read-code-u324 .result) (c .read-code-u324 .ensures) (c .before .if1 .left)
 
@@ -75,7 +75,7 @@ pub table-offset-spec : {M : Type 1} → statement M
 table-offset-spec =
     tie.close
     (tie.spec
-    table-start-requires
+    after-padding-requires
     add-read-code-u32
     read-code-u32-requires
     add-read-code-u32-2

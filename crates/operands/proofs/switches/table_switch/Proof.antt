@@ -3,6 +3,7 @@ use Prim.Native.Nat.{_+_}
 use mathlib.Core.Path.{_≡_, sym, ap, ap₂, _∙_}
 use native.Mathlib.Omega.{arith}
 use denote.Ref.{now}
+use borrow.Author.Needs.{needs}
 use borrow.Author.Tests.{not-true, not-false}
 use Rattle.values.specs.Integers.{_≤ᶻ_}
 use Rattle.rules.specs.Fetch.{u32, lowKey, highKey, keys}
@@ -11,12 +12,11 @@ use Rattle.operands.specs.declared.switches.Switch.the-variants.{Accepte
 use Rattle.operands.specs.Switch.{switchOf}
 use Rattle.operands.proofs.Readings.{word-of}
 use Rattle.operands.proofs.Tables.{key-order, key-count}
-use borrow.Author.Needs.{needs}
 use Rattle.operands.proofs.switches.table_switch.Statement.{statement}
 use Rattle.operands.proofs.switches.table_switch.Tie as tie
 
-table-start-requires : tie.Need-table-start-requires
-table-start-requires c κs = search needs
+after-padding-requires : tie.Need-after-padding-requires
+after-padding-requires c κs = search needs
 
 add-if1 : tie.Need-add-if1
 add-if1 c = search needs
@@ -49,7 +49,7 @@ ordering c =
     let low = c .before .before in
     let place = low .before .before in
     let a = place .before .before .args in
-    key-order (now (a .code)) (a .pc) (place .table-start .result) (low .read-code-u32 .result) (c .before .read-code-u322 .result) (place .table-start .ensures) (low .read-code-u32 .ensures) (c .before .read-code-u322 .ensures) (c .icmple .result) (c .icmple .ensures)
+    key-order (now (a .code)) (a .pc) (place .after-padding .result) (low .read-code-u32 .result) (c .before .read-code-u322 .result) (place .after-padding .ensures) (low .read-code-u32 .ensures) (c .before .read-code-u322 .ensures) (c .icmple .result) (c .icmple .ensures)
 
 returns-2 : tie.Need-returns-2
 unfolding switchOf
@@ -86,7 +86,7 @@ counting c =
     let low = high .before in
     let place = low .before .before in
     let a = place .before .before .args in
-    key-count (now (a .code)) (a .pc) (place .table-start .result) (low .read-code-u32 .result) (high .read-code-u322 .result) (place .table-start .ensures) (low .read-code-u32 .ensures) (high .read-code-u322 .ensures) (c .wrapping-sub-u32 .result) (omega (arith, low .read-code-u32 .ok)) (omega (arith, high .read-code-u322 .ok)) (omega (arith, c .wrapping-sub-u32 .ok)) (c .wrapping-sub-u32 .ensures) (sym (test .icmple .ensures) ∙ not-false (test .icmple .result) (c .before .if2 .left))
+    key-count (now (a .code)) (a .pc) (place .after-padding .result) (low .read-code-u32 .result) (high .read-code-u322 .result) (place .after-padding .ensures) (low .read-code-u32 .ensures) (high .read-code-u322 .ensures) (c .wrapping-sub-u32 .result) (omega (arith, low .read-code-u32 .ok)) (omega (arith, high .read-code-u322 .ok)) (omega (arith, c .wrapping-sub-u32 .ok)) (c .wrapping-sub-u32 .ensures) (sym (test .icmple .ensures) ∙ not-false (test .icmple .result) (c .before .if2 .left))
 
 returns-3 : tie.Need-returns-3
 unfolding switchOf
@@ -97,8 +97,8 @@ returns-3 c =
     let count = counting (c .before) in
     λ row. sym (ap switchOf (table-missing (now (a .code)) (a .pc) row (omega arith) order (omega arith)))
 
-sub-t13 : tie.Need-sub-t13
-sub-t13 c = search needs
+sub-size : tie.Need-sub-size
+sub-size c = search needs
 
 read-code-u32-requires-3 : tie.Need-read-code-u32-requires-3
 read-code-u32-requires-3 c κs = search needs
@@ -111,14 +111,14 @@ returns-4 c =
     let a = place .before .before .args in
     let order = sym (ordering test) ∙ not-false (test .icmple .result) (c .before .before .before .if2 .left) in
     let count = counting (c .before .before) in
-    let default = word-of (now (a .code)) _ (c .read-code-u323 .result) (c .read-code-u323 .ensures ∙ ap (u32 (now (a .code))) (place .table-start .ensures)) (omega (arith, c .read-code-u323 .ok)) in
+    let default = word-of (now (a .code)) _ (c .read-code-u323 .result) (c .read-code-u323 .ensures ∙ ap (u32 (now (a .code))) (place .after-padding .ensures)) (omega (arith, c .read-code-u323 .ok)) in
     λ row. ap₂ Accepted (omega arith) default ∙ sym (ap switchOf (table-there (now (a .code)) (a .pc) row (omega arith) order (omega arith)))
 
 pub table-switch-spec : {M : Type 1} → statement M
 table-switch-spec =
     tie.close
     (tie.spec
-    table-start-requires
+    after-padding-requires
     add-if1
     returns
     add-read-code-u32
@@ -134,6 +134,6 @@ table-switch-spec =
     mul-end
     add-end-3
     returns-3
-    sub-t13
+    sub-size
     read-code-u32-requires-3
     returns-4)
