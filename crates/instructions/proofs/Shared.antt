@@ -3,7 +3,8 @@ use Prim.Native.Nat.{ℕ}
 use mathlib.Core.Path.{refl}
 use Rattle.rules.specs.Instructions.{instructions, rowOf}
 use Rattle.rules.proofs.Rows.{OfRow, every-row}
-use Rattle.instructions.specs.Table.{sharedOf, doesOf, readsOf}
+use Rattle.instructions.specs.Table.{sharedOf}
+use Rattle.instructions.specs.Effects.{doesOf, readsOf}
 
 pub shared-does : (n : ℕ) → OfRow (λ r. r .rule .does) (λ r. doesOf (rowOf (sharedOf r))) (rowOf n)
 unfolding instructions rowOf

@@ -1,11 +1,10 @@
 -- What the step reads of an instruction's row, packed into one number: the table that the step uses. Assumes nothing.
 use Prim.Native.Nat.{ℕ, _+_, _*_}
 use mathlib.Core.Bool.{Bool, _&&_, cond}
-use mathlib.Core.List.{List, []}
 use mathlib.Core.Option.{Option, none, some}
 use lib.Dec.{leb, eqb}
 use Rattle.values.specs.Kinds.{placesOf}
-use Rattle.rules.specs.Forms.{Row, Operand, Result, pushes, Source, stack, Format, alone, implied, byte, short, index, index2, index-const, branch, branch4, table, pairs, widened}
+use Rattle.rules.specs.Forms.{Row, Format, alone, implied, byte, short, index, index2, index-const, branch, branch4, table, pairs, widened}
 
 -- the length in bytes: 0 marks a switch, 254 WIDE
 abbrev pub lengthOf : Format → ℕ
@@ -58,13 +57,3 @@ unfoldable pub entryOf : Option Row → ℕ
 entryOf none = 255
 entryOf (some r) =
     packed (lengthOf (r .format)) (placesOf (r .rule .takes)) (placesOf (r .rule .gives)) (placesOf (r .rule .locals)) (formatOf (r .format)) (sharedOf r)
-
--- ---- what an opcode does with its operand and its words, lowest first, and where these lie; an opcode outside the core does nothing
-
-abbrev pub doesOf : Option Row → Operand → List ℕ → Result
-doesOf none o ws = pushes []
-doesOf (some r) o ws = r .rule .does o ws
-
-abbrev pub readsOf : Option Row → Source
-readsOf none = stack
-readsOf (some r) = r .rule .reads
