@@ -4,6 +4,7 @@ pub mod Rows
 pub mod Questions
 pub mod Step
 pub mod Legal
+pub mod Run
 -- Examples, which only the checker reads
 mod Given
 mod Examples

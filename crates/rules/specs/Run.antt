@@ -1,7 +1,9 @@
 -- A run: at most budget ordinary steps, without history. Assumes nothing.
 use Prim.Native.Nat.{ℕ, zero, suc}
 use mathlib.Core.List.{List}
+use mathlib.Core.Option.{Option, none, some}
 use Rattle.rules.specs.declared.State.{State}
+use Rattle.rules.specs.declared.Decision.{Decision}
 use Rattle.rules.specs.declared.Decision.the-variants.{Ordinary, Return, Throw, Refused}
 use Rattle.rules.specs.declared.End.{End}
 use Rattle.rules.specs.declared.End.the-variants as End
@@ -37,3 +39,27 @@ runAsked l budget s slots (refused k) = record { state = s; steps = 0; end = End
 
 unfoldable pub runOf : Lent → ℕ → State → List ℕ → Ran
 runOf l budget s slots = runAsked l budget s slots (frameAsked l s slots)
+
+-- ---- what a run's steps are
+
+-- the state without its count, which no step looks at
+abbrev pub uncounted : State → State
+uncounted s = moved s (s .pc) (s .depth) 0
+
+-- the state and the slots after n ordinary steps without history, if that many can be taken
+unfoldable pub stepsOf : Lent → ℕ → State → List ℕ → Option (State × List ℕ)
+stepsOf l zero s slots = some (s, slots)
+stepsOf l (suc n) s slots =
+    elim (decideOf l s slots) [
+      | Ordinary u ↦ stepsOf l n (moved s (u .pc) (u .depth) 0) (written u slots)
+      | Return v ↦ none
+      | Throw ↦ none
+      | Refused k ↦ none
+    ]
+
+-- what a decision that is not ordinary ends a run with
+abbrev pub endBy : Decision → Option End
+endBy (Ordinary u) = none
+endBy (Return v) = some (End.Return v)
+endBy Throw = some End.Throw
+endBy (Refused k) = some (End.Refused k)

@@ -1,0 +1,96 @@
+-- A run takes the steps that it reports: they lead from the state that it got to the state that it gives, and what ends it is what the rules give there. Assumes nothing.
+use Prim.Native.Nat.{ℕ, zero, suc, _+_, _<_}
+use mathlib.Core.Path.{_≡_, refl, ap, _∙_}
+use mathlib.Core.List.{List}
+use mathlib.Core.Option.{some}
+use native.Mathlib.Omega.{arith}
+use Rattle.rules.specs.declared.State.{State}
+use Rattle.rules.specs.declared.Update.{Update}
+use Rattle.rules.specs.declared.Decision.{Decision}
+use Rattle.rules.specs.declared.Decision.the-variants.{Ordinary, Return, Throw, Refused}
+use Rattle.rules.specs.declared.End.{End}
+use Rattle.rules.specs.declared.End.the-variants as End
+use Rattle.rules.specs.Asked.{Asked, passed, refused, _>>_, _>>=_}
+use Rattle.rules.specs.Forms.{Result, pushes, stores, divides, branches, returns, Source, stack, local, pool}
+use Rattle.rules.specs.Fetch.{Instruction, fetched}
+use Rattle.rules.specs.Questions.{Lent, frameAsked, needsAsked}
+use Rattle.rules.specs.Step.{frame, wordsAt, outcome, decision, decideOf, moved, written}
+use Rattle.rules.proofs.Step.{result, run-ordinary, run-return, run-throw, run-refused}
+use Rattle.rules.specs.Run.{Ran, ends, runFrom, uncounted, stepsOf, endBy}
+
+-- ---- no step looks at the count
+
+bind-same : {A B : Type 0} (y : Asked B) (f g : B → Asked A) → ((b : B) → f b ≡ g b) → (y >>= f) ≡ (y >>= g)
+unfolding _>>=_
+bind-same (passed b) f g h = h b
+bind-same (refused n) f g h = refl
+
+module _ (l : Lent) (s : State) (slots : List ℕ) where
+  outcome-same : (i : Instruction) (r : Result) → outcome l (uncounted s) i r ≡ outcome l s i r
+  outcome-same i (pushes ws) = refl
+  outcome-same i (stores ws) = refl
+  outcome-same i (divides by ws) = refl
+  outcome-same i (branches t z) = refl
+  outcome-same i (returns v) = refl
+
+  words-same : (i : Instruction) (p : Source) → wordsAt p l (uncounted s) (frame s slots) i ≡ wordsAt p l s (frame s slots) i
+  words-same i stack = refl
+  words-same i local = refl
+  words-same i pool = refl
+
+  result-same : (i : Instruction) → result l (uncounted s) slots i ≡ result l s slots i
+  result-same i = ap (i .rule .does (i .operand)) (words-same i (i .rule .reads))
+
+  pub count-unseen : decideOf l (uncounted s) slots ≡ decideOf l s slots
+  unfolding decideOf frameAsked needsAsked
+  count-unseen = ap (λ (x : Asked Decision). decision (frameAsked l s slots >> x))
+      (bind-same (fetched (l .code) (s .pc)) _ _ (λ i. ap (λ (x : Asked Decision). needsAsked l s i >> x) (ap (outcome l (uncounted s) i) (result-same i) ∙ outcome-same i (result l s slots i))))
+
+-- ---- the steps of a run
+
+-- a run of k steps from s: k is at most the budget b; at k = b it has stopped, and before it has ended as the decision there says
+pub data Ended (l : Lent) (b k : ℕ) (r : Ran) : Type 0 where
+  stopped : k ≡ b → r .end ≡ End.Stopped → Ended l b k r
+  ended : k < b → endBy (decideOf l (r .state) (r .slots)) ≡ some (r .end) → Ended l b k r
+
+pub record Leads (l : Lent) (b n : ℕ) (s : State) (slots : List ℕ) (r : Ran) : Type 0 where
+  pub taken : ℕ
+  pub counted : r .steps ≡ n + taken
+  pub led : stepsOf l taken (uncounted s) slots ≡ some (r .state, r .slots)
+  pub ending : Ended l b taken r
+
+module _ (l : Lent) where
+  step-first : (n : ℕ) (s : State) (slots : List ℕ) (u : Update) → decideOf l s slots ≡ Ordinary u
+      → stepsOf l (suc n) (uncounted s) slots ≡ stepsOf l n (moved s (u .pc) (u .depth) 0) (written u slots)
+  unfolding stepsOf
+  step-first n s slots u e = rw (count-unseen l s slots ∙ e, stepsOf)
+
+  -- an outcome or a refusal at once
+  at-once : (b n : ℕ) (s : State) (slots : List ℕ) (e : End) → endBy (decideOf l s slots) ≡ some e → Leads l (suc b) n s slots (ends s slots n e)
+  unfolding stepsOf
+  at-once b n s slots e h = record { taken = 0; counted = omega arith; led = refl; ending = ended (omega arith) (ap endBy (count-unseen l s slots) ∙ h) }
+
+  later : (b n : ℕ) (s : State) (slots : List ℕ) (u : Update) (r : Ran) → decideOf l s slots ≡ Ordinary u
+      → Leads l b (suc n) (moved s (u .pc) (u .depth) 0) (written u slots) r → Leads l (suc b) n s slots r
+  later b n s slots u r e h = record {
+    taken = suc (h .taken);
+    counted = h .counted ∙ omega arith;
+    led = step-first (h .taken) s slots u e ∙ h .led;
+    ending = go (h .ending);
+  }
+    where
+      go : Ended l b (h .taken) r → Ended l (suc b) (suc (h .taken)) r
+      go (stopped p q) = stopped (ap suc p) q
+      go (ended p q) = ended (omega arith) q
+
+  pub run-leads : (b n : ℕ) (s : State) (slots : List ℕ) → Leads l b n s slots (runFrom l b n s slots)
+  unfolding runFrom stepsOf
+  run-leads zero n s slots = record { taken = 0; counted = omega arith; led = refl; ending = stopped refl refl }
+  run-leads (suc b) n s slots = go (decideOf l s slots) refl (λ u. run-leads b (suc n) (moved s (u .pc) (u .depth) 0) (written u slots))
+    where
+      go : (d : Decision) → decideOf l s slots ≡ d → ((u : Update) → Leads l b (suc n) (moved s (u .pc) (u .depth) 0) (written u slots) (runFrom l b (suc n) (moved s (u .pc) (u .depth) 0) (written u slots)))
+          → Leads l (suc b) n s slots (runFrom l (suc b) n s slots)
+      go (Ordinary u) e h = rw (run-ordinary l b n s slots u e) (later b n s slots u _ e (h u))
+      go (Return v) e h = rw (run-return l b n s slots v e) (at-once b n s slots (End.Return v) (ap endBy e))
+      go Throw e h = rw (run-throw l b n s slots e) (at-once b n s slots End.Throw (ap endBy e))
+      go (Refused k) e h = rw (run-refused l b n s slots k e) (at-once b n s slots (End.Refused k) (ap endBy e))
