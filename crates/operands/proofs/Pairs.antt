@@ -1,4 +1,4 @@
--- LOOKUPSWITCH: its pairs from the one at i on, when i is one more; whether their keys rise. Assumes nothing.
+-- LOOKUPSWITCH: the pairs from the one at i on, and whether their keys rise. Assumes nothing.
 use Prim.Native.Nat.{ℕ, suc, _+_, _-_, _*_, _≤_, _<_}
 use mathlib.Core.Path.{_≡_, ap, ap₂, _∙_}
 use mathlib.Core.Bool.{true, false}

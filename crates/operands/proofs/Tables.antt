@@ -11,11 +11,11 @@ use Rattle.rules.specs.Fetch.{u32, aligned, lowKey, highKey, keys}
 use Rattle.operands.proofs.Differences.{raised, same-difference, word-difference, word-order}
 use Rattle.operands.proofs.Readings.{word-means}
 
--- a word that is n past another is so 2 ^ 31 higher too
+-- b is n past a modulo 2 ^ 32, and so are the two raised
 pub raised-sum : (a b n : ℕ) → (n + a) % 2 ^ 32 ≡ b → raised 31 b ≡ (n + raised 31 a) % 2 ^ 32
 raised-sum a b n e = omega arith
 
--- no wrap up to the highest
+-- up to the highest nothing wraps
 no-wrap : (low high key span i : ℕ) → low ≤ high → high < 2 ^ 32 → span < 2 ^ 32 → high ≡ (span + low) % 2 ^ 32 → key ≡ (i + low) % 2 ^ 32 → i ≤ span → key ≡ i + low
 no-wrap low high key span i o H S spans past h =
     let e : span + low ≡ high = omega arith in

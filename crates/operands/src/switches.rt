@@ -14,7 +14,7 @@ use integers::icmpeq;
 use integers::icmple;
 use integers::icmplt;
 
-// A switch with its length in bytes and its default offset, or the number of the question that it fails.
+// A switch with its length in bytes and its default offset, or the number of its refusal.
 pub enum Switch {
     Accepted { size: usize, default: u32 },
     Refused(u32),
