@@ -1,0 +1,99 @@
+// The family of a shared opcode, and what it does.
+use crate::branches::branch_effect;
+use crate::comparisons::comparison_effect;
+use crate::constants::constant_effect;
+use crate::conversion::conversion_effect;
+use crate::double::double_effect;
+use crate::float::float_effect;
+use crate::int::int_effect;
+use crate::long::long_effect;
+use crate::moves::move_effect;
+use crate::outcome::Effect;
+use crate::outcome::nothing;
+use crate::returns::return_effect;
+use crate::stack::stack_effect;
+ghost use mathlib.Core.Path.{_≡_};
+ghost use mathlib.Core.Bool.{true};
+ghost use Prim.Native.Nat.{ℕ, _≤_, _<_};
+ghost use Rattle.instructions.specs.Table.{isIn};
+ghost use Rattle.effects.specs.Effects.{effectAt};
+ghost use Rattle.effects.specs.Families.{sharedOpcodes, arithmeticKind};
+
+// Constants, moves and the stack: the opcodes below 96.
+fn plain_effect(op: u8, constant: u32, a: u32, b: u32, c: u32, d: u32) -> Effect
+    requires { ⌜ isIn sharedOpcodes op ≡ true ⌝ }
+    requires { ⌜ op < 96 ⌝ }
+    ensures { λ r. ⌜ r ≡ effectAt op constant a b c d ⌝ }
+{
+    if op < 18 {
+        return constant_effect(op, constant);
+    }
+    if op < 87 {
+        return move_effect(op, a, b);
+    }
+    stack_effect(op, a, b, c, d)
+}
+
+// 0 to 3: an arithmetic opcode of ints, longs, floats, doubles. From 120 on only ints and longs take turns.
+fn arithmetic_kind(op: u8) -> u8
+    ensures { λ r. ⌜ r ≡ arithmeticKind op ⌝ }
+{
+    if op < 120 { op % 4 } else { op % 2 }
+}
+
+// Arithmetic: the opcodes from 96 to 132.
+fn arithmetic_effect(op: u8, constant: u32, a: u32, b: u32, c: u32, d: u32) -> Effect
+    requires { ⌜ isIn sharedOpcodes op ≡ true ⌝ }
+    requires { ⌜ (96 ≤ op) × (op < 133) ⌝ }
+    ensures { λ r. ⌜ r ≡ effectAt op constant a b c d ⌝ }
+{
+    let kind = arithmetic_kind(op);
+    if kind == 0 {
+        return int_effect(op, constant, a, b);
+    }
+    if kind == 1 {
+        return long_effect(op, a, b, c, d);
+    }
+    if kind == 2 {
+        return float_effect(op, a, b);
+    }
+    double_effect(op, a, b, c, d)
+}
+
+// Branches, switches, returns and WIDE: the opcodes from 153 on.
+fn control_effect(op: u8, a: u32, b: u32) -> Effect
+    requires { ⌜ isIn sharedOpcodes op ≡ true ⌝ }
+    requires { ⌜ 153 ≤ op ⌝ }
+    ensures { λ r. ⌜ ((constant c d : ℕ) → r ≡ effectAt op constant a b c d) ⌝ }
+{
+    if op < 172 {
+        return branch_effect(op, a, b);
+    }
+    if op < 178 {
+        return return_effect(op, a, b);
+    }
+    if op == 196 {
+        return nothing();
+    }
+    branch_effect(op, a, b)
+}
+
+// What a shared opcode does with its constant and its words, lowest first.
+pub fn effect(op: u8, constant: u32, a: u32, b: u32, c: u32, d: u32) -> Effect
+    requires { ⌜ isIn sharedOpcodes op ≡ true ⌝ }
+    ensures { λ r. ⌜ r ≡ effectAt op constant a b c d ⌝ }
+{
+    if op < 96 {
+        return plain_effect(op, constant, a, b, c, d);
+    }
+    if op < 133 {
+        return arithmetic_effect(op, constant, a, b, c, d);
+    }
+    if op < 148 {
+        return conversion_effect(op, a, b);
+    }
+    if op < 153 {
+        return comparison_effect(op, a, b, c, d);
+    }
+    control_effect(op, a, b)
+}

@@ -1,0 +1,20 @@
+// The frame of a method: whether it stands, what an instruction needs of it, and its words read and written.
+mod places;
+mod questions;
+mod slots;
+mod stack;
+mod words;
+
+pub use places::Placed;
+pub use places::place;
+pub use questions::ask_frame;
+pub use slots::commit;
+pub use slots::load_local;
+pub use slots::load_local_2;
+pub use slots::local;
+pub use slots::set_local;
+pub use stack::pop;
+pub use stack::pop_long;
+pub use stack::push;
+pub use stack::push_long;
+pub use stack::push_words;
