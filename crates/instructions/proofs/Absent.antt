@@ -1,25 +1,21 @@
 -- An opcode that is none of the core's has no row. Assumes nothing.
 use Prim.Native.Nat.{ℕ, _<_}
 use mathlib.Core.Path.{_≡_, refl, sym, _∙_}
-use mathlib.Core.Bool.{Bool, false, _||_}
+use mathlib.Core.Bool.{false}
 use mathlib.Core.List.{List, [], _∷_, map}
 use mathlib.Core.Option.{Option, none, some}
-use lib.Dec.{eqb}
 use borrow.Author.Tests.{ne-eqb}
 use Rattle.rules.specs.Forms.{Row}
 use Rattle.rules.specs.Instructions.{rowOf}
 use Rattle.rules.proofs.Rows.{upTo, agree, isCore, isSome, core-opcodes}
+use Rattle.instructions.specs.Table.{isIn}
 
 -- x is none of the keys, as the last arm of a `match` knows it, the last key first
 abbrev pub Absent : List ℕ → ℕ → Type 0
 Absent [] x = Unit {0}
 Absent (k ∷ ks) x = Absent ks x × (x ≡ k → ⊥)
 
-abbrev pub isIn : List ℕ → ℕ → Bool
-isIn [] n = false
-isIn (k ∷ ks) n = eqb n k || isIn ks n
-
-not-in : (ks : List ℕ) (x : ℕ) → Absent ks x → isIn ks x ≡ false
+pub not-in : (ks : List ℕ) (x : ℕ) → Absent ks x → isIn ks x ≡ false
 not-in [] x a = refl
 not-in (k ∷ ks) x a = rw (ne-eqb x k (a .1)) (not-in ks x (a .0))
 

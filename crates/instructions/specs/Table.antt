@@ -1,6 +1,7 @@
 -- What the step reads of an instruction's row, packed into one number: the table that the step uses. Assumes nothing.
 use Prim.Native.Nat.{ℕ, _+_, _*_}
-use mathlib.Core.Bool.{Bool, _&&_, cond}
+use mathlib.Core.Bool.{Bool, false, _&&_, _||_, cond}
+use mathlib.Core.List.{List, [], _∷_}
 use mathlib.Core.Option.{Option, none, some}
 use lib.Dec.{leb, eqb}
 use Rattle.values.specs.Kinds.{placesOf}
@@ -38,6 +39,10 @@ formatOf widened = 13
 
 abbrev pub between : ℕ → ℕ → ℕ → Bool
 between a b n = leb a n && leb n b
+
+abbrev pub isIn : List ℕ → ℕ → Bool
+isIn [] n = false
+isIn (k ∷ ks) n = eqb n k || isIn ks n
 
 -- opcodes that do the same with the same words share one: those of the loads and of the stores of one word and of two, of the constants of
 -- operand bytes, of the constants of one word, of the jumps
