@@ -19,8 +19,9 @@ The results are computed here, exactly, on whole numbers and fractions: JVMS 2.8
 to the nearest value, and to the even one of two that are as near. No floating-point arithmetic of Python or of the machine is used.
 A NaN that an operation or a conversion gives is 7FC00000 or 7FF8000000000000.
 """
-import sys
 from fractions import Fraction
+
+import command
 
 
 # Whole numbers: bits, and the number that they mean in two's complement.
@@ -502,17 +503,5 @@ def vectors():
     return ''.join(lines)
 
 
-def main(arguments):
-    if len(arguments) == 2 and arguments[0] == '--check':
-        with open(arguments[1], 'rb') as file:
-            if file.read() != vectors().encode('ascii'):
-                sys.exit(f'{arguments[1]}: not what tools/vectors/arithmetic.py writes')
-    elif len(arguments) == 1 and not arguments[0].startswith('-'):
-        with open(arguments[0], 'w', encoding='ascii', newline='\n') as file:
-            file.write(vectors())
-    else:
-        sys.exit(__doc__)
-
-
 if __name__ == '__main__':
-    main(sys.argv[1:])
+    command.run(__doc__, vectors)

@@ -23,7 +23,7 @@ instruction does not have is 0; a constant is a word, with the operand's sign, a
 
 The results are worked out here from JVMS 6.5 and questions 4, 5 and 9 of document 01.
 """
-import sys
+import command
 
 # The instructions of the core: the first of neighbouring opcodes, their operands and their names. An operand is
 #   b, s, w   a signed constant of 1, 2 or 4 bytes
@@ -411,17 +411,5 @@ def vectors():
     return ''.join(dict.fromkeys(lines))
 
 
-def main(arguments):
-    if len(arguments) == 2 and arguments[0] == '--check':
-        with open(arguments[1], 'rb') as file:
-            if file.read() != vectors().encode('ascii'):
-                sys.exit(f'{arguments[1]}: not what tools/vectors/decoding.py writes')
-    elif len(arguments) == 1 and not arguments[0].startswith('-'):
-        with open(arguments[0], 'w', encoding='ascii', newline='\n') as file:
-            file.write(vectors())
-    else:
-        sys.exit(__doc__)
-
-
 if __name__ == '__main__':
-    main(sys.argv[1:])
+    command.run(__doc__, vectors)

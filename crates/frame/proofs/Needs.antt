@@ -10,13 +10,13 @@ use Rattle.rules.specs.Instructions.{rowOf}
 use Rattle.rules.specs.Fetch.{Instruction}
 use Rattle.rules.specs.Questions.{Lent, popped, pushed, localsBelow, constantThere, needsAsked}
 use Rattle.rules.specs.Step.{base}
+use Rattle.rules.proofs.Fetched.{Sound}
 use Rattle.rules.proofs.Rows.{of-row, small, small-row, OneLocal, no-local, one-local, one-named}
 use Rattle.instructions.specs.Table.{entryOf}
 use Rattle.instructions.proofs.Entries.{digits}
 use Rattle.frame.specs.declared.places.Placed.{Placed}
 use Rattle.frame.specs.declared.places.Placed.the-variants.{At, Refused}
 use Rattle.frame.specs.Place.{popsIn, pushesIn, localsIn, localThere, placeAsked, answer, placeOf}
-use Rattle.frame.proofs.Fetched.{OfTable}
 
 and-yes : (t : Bool) → (t && true) ≡ t
 and-yes true = refl
@@ -50,14 +50,14 @@ abbrev pub Says : Lent → State → Instruction → Placed → Type 0
 Says l s i (At first depth) = Stands l s i first depth
 Says l s i (Refused n) = needsAsked l s i ≡ refused n
 
-module _ (i : Instruction) (t : OfTable i) where
+module _ (code : List ℕ) (pc : ℕ) (i : Instruction) (t : Sound code pc i) where
   pub popped-in : popsIn (entryOf (rowOf (i .opcode))) ≡ popped i
   popped-in = rw (t .found, t .ruled) (digits (i .opcode) (t .row) (t .found) .pops)
 
   pub pushed-in : pushesIn (entryOf (rowOf (i .opcode))) ≡ pushed i
   pushed-in = rw (t .found, t .ruled) (digits (i .opcode) (t .row) (t .found) .pushes)
 
-  locals-in : localsIn (entryOf (rowOf (i .opcode))) ≡ placesOf (i .rule .locals)
+  pub locals-in : localsIn (entryOf (rowOf (i .opcode))) ≡ placesOf (i .rule .locals)
   locals-in = rw (t .found, t .ruled) (digits (i .opcode) (t .row) (t .found) .locals)
 
   module _ (s : State) where

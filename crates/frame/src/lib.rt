@@ -7,6 +7,7 @@ mod words;
 
 pub use places::Placed;
 pub use places::place;
+pub use questions::FrameAsked;
 pub use questions::ask_frame;
 pub use slots::commit;
 pub use slots::load_local;
@@ -17,4 +18,3 @@ pub use stack::pop;
 pub use stack::pop_long;
 pub use stack::push;
 pub use stack::push_long;
-pub use stack::push_words;

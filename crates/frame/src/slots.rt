@@ -1,7 +1,7 @@
 // The slots of a frame: the locals, and after them the operand stack.
 use crate::stack::push;
-use crate::stack::push_two;
 use crate::stack::push_words;
+use crate::words::write_two;
 use crate::words::write_update;
 use rules::State;
 use rules::Update;
@@ -50,7 +50,7 @@ pub fn load_local_2(slots: &mut [u32], s: State, index: u32)
     let high = slots[at + 1];
     let locals = s.max_locals as usize;
     let end = locals + s.max_stack as usize;
-    push_two(&mut slots[locals..end], s.depth, low, high);
+    write_two(&mut slots[locals..end], s.depth as usize, low, high);
 }
 
 // Writes an ordinary step's words: into the locals, or else into the stack, which is lent on.

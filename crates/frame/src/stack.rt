@@ -1,11 +1,11 @@
 // The operand stack, lent as the part of the slots after the locals. The depth is the caller's: a push or a pop leaves it as it is.
+use crate::words::write_two;
 use crate::words::write_update;
 use integers::high_word;
 use integers::join_words;
 use integers::low_word;
 use rules::Update;
 ghost use mathlib.Core.Path.{_≡_};
-ghost use mathlib.Core.List.{[], _∷_};
 ghost use Prim.Native.Nat.{_+_, _-_, _≤_, _<_};
 ghost use lib.ListN.{length, drop};
 ghost use lib.Seq.{paste};
@@ -21,22 +21,12 @@ pub fn push(stack: &mut [u32], depth: u32, word: u32)
     stack[depth as usize] = word;
 }
 
-// Pushes two words, the low one first.
-pub(crate) fn push_two(stack: &mut [u32], depth: u32, low: u32, high: u32)
-    requires { ⌜ depth + 2 ≤ length (now stack) ⌝ }
-    ensures { λ _. ⌜ now (stack .exit) ≡ paste (now (stack .entry)) depth (low ∷ high ∷ []) 2 ⌝ }
-{
-    let at = depth as usize;
-    stack[at] = low;
-    stack[at + 1] = high;
-}
-
 // Pushes the bits of a long or a double.
 pub fn push_long(stack: &mut [u32], depth: u32, value: u64)
     requires { ⌜ depth + 2 ≤ length (now stack) ⌝ }
     ensures { λ _. ⌜ now (stack .exit) ≡ paste (now (stack .entry)) depth (wordsOf long value) 2 ⌝ }
 {
-    push_two(stack, depth, low_word(value), high_word(value));
+    write_two(stack, depth as usize, low_word(value), high_word(value));
 }
 
 // The word on top. It stays where it is.
@@ -57,7 +47,7 @@ pub fn pop_long(stack: &[u32], depth: u32) -> u64
 }
 
 // The words that an update has, pushed from an index on.
-pub fn push_words(stack: &mut [u32], at: usize, u: Update)
+pub(crate) fn push_words(stack: &mut [u32], at: usize, u: Update)
     requires { ⌜ (u .many ≤ 6) × (at + u .many ≤ length (now stack)) ⌝ }
     ensures { λ _. ⌜ now (stack .exit) ≡ paste (now (stack .entry)) at (updateWords u) (u .many) ⌝ }
 {

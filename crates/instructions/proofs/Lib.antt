@@ -1,4 +1,3 @@
 pub mod Absent
 pub mod Entries
 pub mod Fetching
-pub mod Shared

@@ -1,4 +1,3 @@
 pub mod Table
 pub mod Decode
 pub mod Stages
-pub mod Effects

@@ -4,7 +4,8 @@ use mathlib.Core.List.{[], _∷_}
 use Rattle.values.specs.declared.Value.the-variants.{Int}
 use Rattle.rules.specs.declared.End.the-variants as End
 use Rattle.rules.specs.Fetch.{aligned}
-use Rattle.rules.proofs.Given.{lent, state, decided, changes, ran, on, leaves}
+use Rattle.rules.specs.Questions.{lent}
+use Rattle.rules.proofs.Given.{state, decided, changes, ran, on, leaves}
 
 -- ---- marked examples for the key
 

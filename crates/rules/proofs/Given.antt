@@ -14,12 +14,9 @@ use Rattle.rules.specs.declared.End.{End}
 use Rattle.rules.specs.Asked.{_else_, _>>_, _>>=_}
 use Rattle.rules.specs.Instructions.{rowOf}
 use Rattle.rules.specs.Fetch.{wideAsked, tableAsked, lookupAsked, offsetsFrom, pairsFrom, fetched}
-use Rattle.rules.specs.Questions.{Lent, frameAsked, needsAsked}
+use Rattle.rules.specs.Questions.{Lent, lent, frameAsked, needsAsked}
 use Rattle.rules.specs.Step.{decideOf}
 use Rattle.rules.specs.Run.{Ran, runFrom, runOf}
-
-abbrev pub lent : List ℕ → List ℕ → List ℕ → Lent
-lent code kinds words = record { code = code; kinds = kinds; words = words }
 
 abbrev pub state : ℕ → ℕ → ℕ → ℕ → ℕ → State
 state stack locals pc depth count = record { «max_stack» = stack; «max_locals» = locals; pc = pc; depth = depth; count = count }

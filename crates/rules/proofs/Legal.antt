@@ -3,7 +3,6 @@ use Prim.Native.Nat.{ℕ, zero, suc, _+_, _≤_, _<_}
 use mathlib.Core.Path.{_≡_}
 use mathlib.Core.Bool.{true, cond}
 use mathlib.Core.List.{List, []}
-use mathlib.Core.Option.{Option, none, some}
 use native.Mathlib.Omega.{arith}
 use lib.Dec.{leb, eqb}
 use lib.ListN.{length}
@@ -15,15 +14,16 @@ use Rattle.rules.specs.declared.Update.{Update}
 use Rattle.rules.specs.declared.Decision.{Decision}
 use Rattle.rules.specs.declared.Decision.the-variants.{Ordinary, Return, Throw, Refused}
 use Rattle.rules.specs.Asked.{Asked, passed, refused}
-use Rattle.rules.specs.Forms.{Row, Format, alone, implied, byte, short, index, index2, index-const, branch, branch4, table, pairs, widened, Result, pushes, stores, divides, branches, returns}
+use Rattle.rules.specs.Forms.{Result, pushes, stores, divides, branches, returns}
 use Rattle.rules.specs.Instructions.{rowOf}
-use Rattle.rules.specs.Fetch.{Instruction, u8, core, coreRow, wideAsked, tableAsked, lookupAsked, byFormat, fetched}
+use Rattle.rules.specs.Fetch.{Instruction, fetched}
 use Rattle.rules.specs.Questions.{Lent, pushed, localsBelow, frameAsked, needsAsked}
 use Rattle.rules.specs.Step.{base, firstPlace, inside, ordinary, following, target, outcome, decision, decideOf}
 use Rattle.rules.proofs.Asked.{Holds, asked, after, bound, held, either, and-true}
-use Rattle.rules.proofs.Rows.{OfRow, small, small-row, few-pushed, OneLocal, no-local, one-local, one-named}
+use Rattle.rules.proofs.Rows.{of-row, small, small-row, few-pushed, OneLocal, no-local, one-local, one-named}
 use Rattle.rules.proofs.Questions.{Framed, framed, Needed, needed}
 use Rattle.rules.proofs.Step.{result}
+use Rattle.rules.proofs.Fetched.{fetched-sound}
 
 pub record Legal (l : Lent) (s : State) (slots : List ℕ) (u : Update) : Type 0 where
   pub frame-there : Framed l s slots
@@ -38,43 +38,16 @@ IfOrdinary P (Return v) = Unit {0}
 IfOrdinary P Throw = Unit {0}
 IfOrdinary P (Refused n) = Unit {0}
 
--- ---- each instruction that is fetched is of a row of the table
+-- ---- an instruction that is fetched is of a row of the table
 
 Small : Instruction → Type 0
 Small i = small (i .rule) ≡ true
 
-SmallRow : Row → Type 0
-SmallRow r = small (r .rule) ≡ true
-
-small-core : (o : Option Row) → OfRow (λ r. small (r .rule)) (λ r. true) o → Holds SmallRow (coreRow o)
-unfolding OfRow Holds SmallRow
-small-core none h = tt
-small-core (some r) h = h
-
-core-is-small : (n : ℕ) (r : Row) → core n ≡ passed r → small (r .rule) ≡ true
-unfolding SmallRow
-core-is-small n r e = held SmallRow (core n) r (small-core (rowOf n) (small-row n)) e
-
-module _ (code : List ℕ) (pc : ℕ) where
-  format-small : (r : Row) → small (r .rule) ≡ true → (f : Format) → Holds Small (byFormat code pc r f)
-  unfolding Small Holds wideAsked tableAsked lookupAsked
-  format-small r h alone = asked Small _ 5 _ (λ _. h)
-  format-small r h (implied n) = asked Small _ 5 _ (λ _. h)
-  format-small r h byte = asked Small _ 5 _ (λ _. h)
-  format-small r h short = asked Small _ 5 _ (λ _. h)
-  format-small r h index = asked Small _ 5 _ (λ _. h)
-  format-small r h index2 = asked Small _ 5 _ (λ _. h)
-  format-small r h index-const = asked Small _ 5 _ (λ _. h)
-  format-small r h branch = asked Small _ 5 _ (λ _. h)
-  format-small r h branch4 = asked Small _ 5 _ (λ _. h)
-  format-small r h table = asked Small _ 5 _ (λ _. asked Small _ 6 _ (λ _. asked Small _ 5 _ (λ _. h)))
-  format-small r h pairs = asked Small _ 5 _ (λ _. asked Small _ 6 _ (λ _. asked Small _ 5 _ (λ _. asked Small _ 6 _ (λ _. h))))
-  format-small r h widened = asked Small _ 5 _ (λ _. asked Small _ 4 _ (λ _. bound Small (core (u8 code (pc + 1))) _ (λ q e.
-      either Small (eqb (u8 code (pc + 1)) 132) _ _ (asked Small _ 5 _ (λ _. core-is-small _ q e)) (asked Small _ 5 _ (λ _. core-is-small _ q e)))))
-
-  fetched-small : Holds Small (fetched code pc)
-  unfolding fetched
-  fetched-small = bound Small (core (u8 code pc)) _ (λ r e. format-small r (core-is-small _ r e) (r .format))
+fetched-small : (code : List ℕ) (pc : ℕ) (i : Instruction) → fetched code pc ≡ passed i → Small i
+unfolding Small
+fetched-small code pc i e =
+    let f = fetched-sound code pc i e in
+    rw (f .ruled) (of-row (λ r. small (r .rule)) (λ r. true) (rowOf (i .opcode)) (f .row) (small-row (i .opcode)) (f .found))
 
 -- ---- an ordinary step
 
@@ -141,4 +114,4 @@ module _ (l : Lent) (s : State) (slots : List ℕ) where
       (after Fine (frameAsked l s slots) _ (λ e1.
       bound Fine (fetched (l .code) (s .pc)) _ (λ i e2.
       after Fine (needsAsked l s i) _ (λ e3.
-      outcome-fine (framed l s slots e1) i (held Small (fetched (l .code) (s .pc)) i (fetched-small (l .code) (s .pc)) e2) (needed l s i e3) (result l s slots i)))))
+      outcome-fine (framed l s slots e1) i (fetched-small (l .code) (s .pc) i e2) (needed l s i e3) (result l s slots i)))))

@@ -3,6 +3,7 @@ pub mod Asked
 pub mod Rows
 pub mod Questions
 pub mod Step
+pub mod Fetched
 pub mod Legal
 pub mod Run
 -- Examples, which only the checker reads

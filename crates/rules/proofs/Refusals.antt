@@ -6,7 +6,8 @@ use Rattle.values.specs.declared.Value.the-variants.{Void, Int}
 use Rattle.rules.specs.declared.Decision.{Decision}
 use Rattle.rules.specs.declared.Decision.the-variants.{Return, Throw, Refused}
 use Rattle.rules.specs.Fetch.{u8, u16, u32}
-use Rattle.rules.proofs.Given.{_equals_, AllHold, lent, state, decided, changes, goes}
+use Rattle.rules.specs.Questions.{lent}
+use Rattle.rules.proofs.Given.{_equals_, AllHold, state, decided, changes, goes}
 
 -- a code with an empty pool, six slots of which the first is 1, at offset 0
 unfoldable at : List ℕ → ℕ → ℕ → ℕ → Decision

@@ -193,9 +193,9 @@ counted-row n = every-row counted said refl n
 worksOnFew : Row → Bool
 worksOnFew r = leb (works (r .rule)) 4
 
-works-row : (n : ℕ) → OfRow worksOnFew (λ r. true) (rowOf n)
+pub works-few : (n : ℕ) (r : Row) → rowOf n ≡ some r → works (r .rule) ≤ 4
 unfolding instructions worksOnFew
-works-row n = every-row worksOnFew (λ r. true) refl n
+works-few n r e = leb-true (works (r .rule)) 4 (of-row worksOnFew (λ r. true) (rowOf n) r (every-row worksOnFew (λ r. true) refl n) e)
 
 -- a list of at most four words, by its words
 first-four : (ws : List ℕ) → length ws ≤ 4 → ws ≡ take (length ws) (four (getD ws 0 0) (getD ws 1 0) (getD ws 2 0) (getD ws 3 0))
@@ -209,9 +209,9 @@ first-four (a ∷ b ∷ c ∷ d ∷ e ∷ ws) h = absurd (omega arith)
 
 pub writes-row : (n : ℕ) (r : Row) → rowOf n ≡ some r → (o : Operand) (ws : List ℕ) → length ws ≡ works (r .rule)
     → length (resultWords (r .rule .does o ws)) ≡ kindWords (r .rule) (r .rule .does o ws)
-unfolding counted said worksOnFew
+unfolding counted said
 writes-row n r e o ws l =
-    let few = leb-true (works (r .rule)) 4 (of-row worksOnFew (λ r. true) (rowOf n) r (works-row n) e) in
+    let few = works-few n r e in
     let same = ap (λ (f : Operand → ℕ → ℕ → ℕ → ℕ → ℕ). f o (getD ws 0 0) (getD ws 1 0) (getD ws 2 0) (getD ws 3 0)) (of-row counted said (rowOf n) r (counted-row n) e) in
     let whole = first-four ws (omega arith) in
     subst (λ (v : List ℕ). length (resultWords (r .rule .does o v)) ≡ kindWords (r .rule) (r .rule .does o v)) (sym whole) (rw (sym l) at same)

@@ -11,7 +11,8 @@ use Rattle.rules.specs.declared.End.the-variants as End
 use Rattle.rules.specs.Step.{Stepped, stepOf}
 use Rattle.rules.specs.Run.{Ran}
 use Rattle.rules.specs.Answers.{Answer, decisionAnswer, endAnswer}
-use Rattle.rules.proofs.Given.{_equals_, AllHold, lent, state, decided, changes, ran}
+use Rattle.rules.specs.Questions.{lent}
+use Rattle.rules.proofs.Given.{_equals_, AllHold, state, decided, changes, ran}
 
 -- ---- the places that an instruction writes: two locals, four places of stack, slots beyond the frame
 

@@ -14,6 +14,9 @@ pub record Lent : Type 0 where
   pub kinds : List ℕ
   pub words : List ℕ
 
+abbrev pub lent : List ℕ → List ℕ → List ℕ → Lent
+lent code kinds words = record { code = code; kinds = kinds; words = words }
+
 -- ---- questions 1 to 3
 
 unfoldable pub frameAsked : Lent → State → List ℕ → Asked (Unit {0})

@@ -17,9 +17,12 @@ pub record Ran : Type 0 where
   pub end : End
   pub slots : List ℕ
 
--- the state reached, with count 0
+-- the state without its count, which no step looks at
+abbrev pub uncounted : State → State
+uncounted s = moved s (s .pc) (s .depth) 0
+
 abbrev pub ends : State → List ℕ → ℕ → End → Ran
-ends s slots n e = record { state = moved s (s .pc) (s .depth) 0; steps = n; end = e; slots = slots }
+ends s slots n e = record { state = uncounted s; steps = n; end = e; slots = slots }
 
 -- n steps are taken already; with no budget left there is no further look
 unfoldable pub runFrom : Lent → ℕ → ℕ → State → List ℕ → Ran
@@ -41,10 +44,6 @@ unfoldable pub runOf : Lent → ℕ → State → List ℕ → Ran
 runOf l budget s slots = runAsked l budget s slots (frameAsked l s slots)
 
 -- ---- what a run's steps are
-
--- the state without its count, which no step looks at
-abbrev pub uncounted : State → State
-uncounted s = moved s (s .pc) (s .depth) 0
 
 -- the state and the slots after n ordinary steps without history, if that many can be taken
 unfoldable pub stepsOf : Lent → ℕ → State → List ℕ → Option (State × List ℕ)

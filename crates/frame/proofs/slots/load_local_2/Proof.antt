@@ -34,29 +34,32 @@ cast-end c = search needs
 add-end : tie.Need-add-end
 add-end c = search needs
 
-mul-push-two : tie.Need-mul-push-two
-mul-push-two c = search needs
+mul-write-two : tie.Need-mul-write-two
+mul-write-two c = search needs
 
-sub-push-two : tie.Need-sub-push-two
-sub-push-two c = search needs
+sub-write-two : tie.Need-sub-write-two
+sub-write-two c = search needs
 
-part-push-two-start : tie.Need-part-push-two-start
-part-push-two-start c = search needs
+part-write-two-start : tie.Need-part-write-two-start
+part-write-two-start c = search needs
 
-part-push-two-end : tie.Need-part-push-two-end
-part-push-two-end c = search needs
+part-write-two-end : tie.Need-part-write-two-end
+part-write-two-end c = search needs
 
-push-two-requires : tie.Need-push-two-requires
-push-two-requires c κs = search needs
+cast-write-two : tie.Need-cast-write-two
+cast-write-two c = search needs
+
+write-two-requires : tie.Need-write-two-requires
+write-two-requires c κs = search needs
 
 same-length : tie.Need-same-length
 same-length c = search needs
 
 returns : tie.Need-returns
 returns c =
-    let a = c .before .before .before .before .before .before .before .before .before .args in
+    let a = c .before .before .before .before .before .before .before .before .before .before .args in
     let l = a .s .«max_locals» in
-    rw (c .before .before .push-two .ensures)
+    rw (c .before .before .write-two .ensures)
     (paste-part (now (a .slots)) l (l + a .s .«max_stack») (a .s .depth) 2 (getD (now (a .slots)) (a .index) 0 ∷ getD (now (a .slots)) (a .index + 1) 0 ∷ []) (omega arith) (omega arith)
     ∙ two-copied (now (a .slots)) (l + a .s .depth) (a .index) (omega arith))
 
@@ -72,10 +75,11 @@ load-local-2-spec =
     cast-locals
     cast-end
     add-end
-    mul-push-two
-    sub-push-two
-    part-push-two-start
-    part-push-two-end
-    push-two-requires
+    mul-write-two
+    sub-write-two
+    part-write-two-start
+    part-write-two-end
+    cast-write-two
+    write-two-requires
     same-length
     returns)

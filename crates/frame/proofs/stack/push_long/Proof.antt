@@ -9,8 +9,8 @@ low-word-requires c κs = search needs
 high-word-requires : tie.Need-high-word-requires
 high-word-requires c κs = search needs
 
-push-two-requires : tie.Need-push-two-requires
-push-two-requires c κs = search needs
+write-two-requires : tie.Need-write-two-requires
+write-two-requires c κs = search needs
 
 same-length : tie.Need-same-length
 same-length c = search needs
@@ -20,4 +20,4 @@ returns c = cc
 
 pub push-long-spec : {M : Type 1} → statement M
 push-long-spec =
-    tie.close (tie.spec low-word-requires high-word-requires push-two-requires same-length returns)
+    tie.close (tie.spec low-word-requires high-word-requires write-two-requires same-length returns)
