@@ -11,7 +11,8 @@ def run(usage, vectors):
             if file.read() != vectors().encode('ascii'):
                 sys.exit(f'{arguments[1]}: not what tools/vectors/{os.path.basename(sys.argv[0])} writes')
     elif len(arguments) == 1 and not arguments[0].startswith('-'):
+        text = vectors()
         with open(arguments[0], 'w', encoding='ascii', newline='\n') as file:
-            file.write(vectors())
+            file.write(text)
     else:
         sys.exit(usage)

@@ -11,7 +11,7 @@ ghost use lib.ListN.{length, drop};
 ghost use lib.Seq.{paste};
 ghost use Rattle.values.specs.Kinds.{any};
 ghost use Rattle.values.specs.Words.{valueAt, wordsOf};
-ghost use Rattle.rules.specs.Step.{written};
+ghost use Rattle.rules.specs.Step.{updateWords, written};
 
 // The word of a local.
 pub fn local(slots: &[u32], index: u32) -> u32
@@ -53,17 +53,28 @@ pub fn load_local_2(slots: &mut [u32], s: State, index: u32)
     write_two(&mut slots[locals..end], s.depth as usize, low, high);
 }
 
+// Stores the words that an update has in a local.
+fn store_words(slots: &mut [u32], index: u32, u: Update)
+    requires { ⌜ (u .many ≤ 6) × (index + u .many ≤ length (now slots)) ⌝ }
+    ensures { λ _. ⌜ now (slots .exit) ≡ paste (now (slots .entry)) index (updateWords u) (u .many) ⌝ }
+{
+    if u.many == 1 {
+        set_local(slots, index, u.w0);
+        return;
+    }
+    write_update(slots, index as usize, u);
+}
+
 // Writes an ordinary step's words: into the locals, or else into the stack, which is lent on.
 pub fn commit(slots: &mut [u32], s: State, u: Update)
     requires { ⌜ (u .many ≤ 6) × (u .first + u .many ≤ s .«max_locals» + s .«max_stack») × (s .«max_locals» + s .«max_stack» ≤ length (now slots)) ⌝ }
     ensures { λ _. ⌜ now (slots .exit) ≡ written u (now (slots .entry)) ⌝ }
 {
-    let first = u.first as usize;
-    let locals = s.max_locals as usize;
-    if first < locals {
-        write_update(slots, first, u);
-    } else {
-        let end = locals + s.max_stack as usize;
-        push_words(&mut slots[locals..end], first - locals, u);
+    if u.first < s.max_locals as u32 {
+        store_words(slots, u.first, u);
+        return;
     }
+    let locals = s.max_locals as usize;
+    let end = locals + s.max_stack as usize;
+    push_words(&mut slots[locals..end], u.first - s.max_locals as u32, u);
 }

@@ -46,10 +46,14 @@ pub fn pop_long(stack: &[u32], depth: u32) -> u64
     join_words(stack[at], stack[at + 1])
 }
 
-// The words that an update has, pushed from an index on.
-pub(crate) fn push_words(stack: &mut [u32], at: usize, u: Update)
-    requires { ⌜ (u .many ≤ 6) × (at + u .many ≤ length (now stack)) ⌝ }
-    ensures { λ _. ⌜ now (stack .exit) ≡ paste (now (stack .entry)) at (updateWords u) (u .many) ⌝ }
+// Pushes the words that an update has: one, a long's two, or what a stack instruction leaves.
+pub(crate) fn push_words(stack: &mut [u32], depth: u32, u: Update)
+    requires { ⌜ (u .many ≤ 6) × (depth + u .many ≤ length (now stack)) ⌝ }
+    ensures { λ _. ⌜ now (stack .exit) ≡ paste (now (stack .entry)) depth (updateWords u) (u .many) ⌝ }
 {
-    write_update(stack, at, u);
+    if u.many == 1 {
+        push(stack, depth, u.w0);
+        return;
+    }
+    write_update(stack, depth as usize, u);
 }

@@ -33,10 +33,6 @@ pub(crate) fn write_update(target: &mut [u32], at: usize, u: Update)
     requires { ⌜ (u .many ≤ 6) × (at + u .many ≤ length (now target)) ⌝ }
     ensures { λ _. ⌜ now (target .exit) ≡ paste (now (target .entry)) at (updateWords u) (u .many) ⌝ }
 {
-    if u.many == 1 {
-        target[at] = u.w0;
-        return;
-    }
     if u.many == 2 {
         write_two(target, at, u.w0, u.w1);
         return;

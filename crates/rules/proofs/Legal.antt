@@ -1,14 +1,15 @@
 -- What every ordinary step keeps: all that the theorem on the list of presses asks of the 164 instructions. Assumes nothing.
 use Prim.Native.Nat.{ℕ, zero, suc, _+_, _≤_, _<_}
-use mathlib.Core.Path.{_≡_}
+use mathlib.Core.Path.{_≡_, subst}
 use mathlib.Core.Bool.{true, cond}
 use mathlib.Core.List.{List, []}
 use native.Mathlib.Omega.{arith}
-use lib.Dec.{leb, eqb}
+use lib.Dec.{eqb}
 use lib.ListN.{length}
+use lib.Seq.{length-paste}
 use lib.IntN.{ℤ, pos, negsuc}
-use borrow.Author.Tests.{ltb-true, leb-true}
-use Rattle.values.specs.Kinds.{Kind, places, placesOf}
+use borrow.Author.Tests.{ltb-true}
+use Rattle.values.specs.Kinds.{placesOf}
 use Rattle.rules.specs.declared.State.{State}
 use Rattle.rules.specs.declared.Update.{Update}
 use Rattle.rules.specs.declared.Decision.{Decision}
@@ -17,10 +18,10 @@ use Rattle.rules.specs.Asked.{Asked, passed, refused}
 use Rattle.rules.specs.Forms.{Result, pushes, stores, divides, branches, returns}
 use Rattle.rules.specs.Instructions.{rowOf}
 use Rattle.rules.specs.Fetch.{Instruction, fetched}
-use Rattle.rules.specs.Questions.{Lent, pushed, localsBelow, frameAsked, needsAsked}
-use Rattle.rules.specs.Step.{base, firstPlace, inside, ordinary, following, target, outcome, decision, decideOf}
-use Rattle.rules.proofs.Asked.{Holds, asked, after, bound, held, either, and-true}
-use Rattle.rules.proofs.Rows.{of-row, small, small-row, few-pushed, OneLocal, no-local, one-local, one-named}
+use Rattle.rules.specs.Questions.{Lent, pushed, frameAsked, needsAsked}
+use Rattle.rules.specs.Step.{base, firstPlace, inside, ordinary, following, target, outcome, decision, decideOf, moved, updateWords, written}
+use Rattle.rules.proofs.Asked.{Holds, asked, after, bound, held, either}
+use Rattle.rules.proofs.Rows.{of-row, small, small-row, few-pushed, one-named, few-named, local-within}
 use Rattle.rules.proofs.Questions.{Framed, framed, Needed, needed}
 use Rattle.rules.proofs.Step.{result}
 use Rattle.rules.proofs.Fetched.{fetched-sound}
@@ -61,9 +62,9 @@ module _ (l : Lent) (s : State) (slots : List ℕ) where
   decision-fine (refused n) h = tt
 
   -- where nothing is written the first place is 0
-  placed : (at n limit : ℕ) → at + n ≤ limit → firstPlace at n + n ≤ limit
+  placed : (at n limit : ℕ) → (0 < n → at + n ≤ limit) → firstPlace at n + n ≤ limit
   placed at zero limit h = omega arith
-  placed at (suc n) limit h = h
+  placed at (suc n) limit h = h (omega arith)
 
   InCode : ℕ → Type 0
   InCode p = p < length (l .code)
@@ -90,19 +91,19 @@ module _ (l : Lent) (s : State) (slots : List ℕ) where
     pushed-fine ws =
         let p = n .pops in
         let q = n .fits in
-        ordinary-fine (following s i) (base s i) (pushed i) ws (few-pushed (i .rule) small) (placed (base s i) (pushed i) _ (omega arith))
+        ordinary-fine (following s i) (base s i) (pushed i) ws (few-pushed (i .rule) small) (placed (base s i) (pushed i) _ (λ _. omega arith))
 
-    stored-fine : (ks : List Kind) → OneLocal ks → localsBelow (s .«max_locals») (i .operand .index) ks ≡ true → (ws : List ℕ)
-        → Holds Fine (ordinary l s i (following s i) (i .operand .index) (placesOf ks) ws)
-    stored-fine _ no-local b ws = ordinary-fine (following s i) (i .operand .index) 0 ws (omega arith) (omega arith)
-    stored-fine _ (one-local k h) b ws =
-        let c = leb-true (i .operand .index + places k) (s .«max_locals») (and-true (leb (i .operand .index + places k) (s .«max_locals»)) true b .0) in
-        ordinary-fine (following s i) (i .operand .index) (places k + 0) ws (omega arith) (placed (i .operand .index) (places k + 0) _ (omega arith))
+    stored-fine : (ws : List ℕ) → Holds Fine (ordinary l s i (following s i) (i .operand .index) (placesOf (i .rule .locals)) ws)
+    unfolding Small
+    stored-fine ws =
+        let one = one-named (i .rule) small in
+        ordinary-fine (following s i) (i .operand .index) (placesOf (i .rule .locals)) ws (few-named one) (placed _ _ _ (λ h.
+        let c = local-within (s .«max_locals») (i .operand .index) one (n .local-there) h in omega arith))
 
     outcome-fine : (r : Result) → Holds Fine (outcome l s i r)
     unfolding Holds Fine Small
     outcome-fine (pushes ws) = pushed-fine ws
-    outcome-fine (stores ws) = stored-fine (i .rule .locals) (one-named (i .rule) small) (n .local-there) ws
+    outcome-fine (stores ws) = stored-fine ws
     outcome-fine (divides by ws) = either Fine (eqb by 0) _ _ tt (pushed-fine ws)
     outcome-fine (branches t z) = ordinary-fine (cond t (target s z) (following s i)) 0 0 [] (omega arith) (omega arith)
     outcome-fine (returns v) = tt
@@ -115,3 +116,25 @@ module _ (l : Lent) (s : State) (slots : List ℕ) where
       bound Fine (fetched (l .code) (s .pc)) _ (λ i e2.
       after Fine (needsAsked l s i) _ (λ e3.
       outcome-fine (framed l s slots e1) i (fetched-small (l .code) (s .pc) i e2) (needed l s i e3) (result l s slots i)))))
+
+-- ---- and so the frame stands after it
+
+module _ (l : Lent) (s : State) (slots : List ℕ) (u : Update) (legal : Legal l s slots u) where
+  pub written-length : length (written u slots) ≡ length slots
+  written-length = let f = legal .frame-there in length-paste slots (u .first) (updateWords u) (u .many) (omega (arith, legal .within, f .room)) (legal .few)
+
+  pub still-framed : (count : ℕ) → Framed l (moved s (u .pc) (u .depth) count) (written u slots)
+  still-framed count =
+      let f = legal .frame-there in
+      record {
+        paired = f .paired;
+        pool = f .pool;
+        room = omega (arith, f .room, written-length);
+        some-code = f .some-code;
+        short-code = f .short-code;
+        in-code = legal .new-pc;
+        deep = legal .new-depth;
+      }
+
+pub ordinary-legal : (l : Lent) (s : State) (slots : List ℕ) (u : Update) → decideOf l s slots ≡ Ordinary u → Legal l s slots u
+ordinary-legal l s slots u e = subst (IfOrdinary (Legal l s slots)) e (decide-legal l s slots)

@@ -1,5 +1,5 @@
 -- Laws of every row of the table, each by one computed test over all rows or all 256 opcodes. Assumes nothing.
-use Prim.Native.Nat.{ℕ, zero, suc, _-_, _%_, _≤_, _<_}
+use Prim.Native.Nat.{ℕ, zero, suc, _+_, _-_, _%_, _≤_, _<_}
 use mathlib.Core.Path.{_≡_, refl, sym, ap, subst}
 use mathlib.Core.Bool.{Bool, true, false, _&&_, _||_, cond}
 use mathlib.Core.List.{List, [], _∷_, map}
@@ -11,6 +11,7 @@ use borrow.Author.Tests.{eqb-true, eqb-false, leb-true}
 use Rattle.values.specs.Kinds.{Kind, places, placesOf}
 use Rattle.rules.specs.Forms.{Row, Rule, Operand, Result, pushes, stores, divides, branches, returns, Source, stack, local, pool, Format, alone, implied, byte, short, index, index2, index-const, branch, branch4, table, pairs, widened}
 use Rattle.rules.specs.Instructions.{instructions, rowIn, rowOf}
+use Rattle.rules.specs.Questions.{localsBelow}
 use Rattle.rules.proofs.Asked.{and-true}
 
 -- ---- what is computed of every row
@@ -84,6 +85,15 @@ one-named r e = go (r .locals) (and-true (leb (placesOf (r .gives)) 6) (fewLocal
     go [] h = no-local
     go (k ∷ []) h = one-local k (leb-true (places k) 6 h)
     go (k ∷ j ∷ ks) h = let z : _≡_ {A = ℕ} 0 1 = cc in absurd (omega arith)
+
+pub few-named : {ks : List Kind} → OneLocal ks → placesOf ks ≤ 6
+few-named no-local = omega arith
+few-named (one-local k h) = omega arith
+
+-- question 8 says of it that all its places are below the limit
+pub local-within : (limit x : ℕ) {ks : List Kind} → OneLocal ks → localsBelow limit x ks ≡ true → 0 < placesOf ks → x + placesOf ks ≤ limit
+local-within limit x no-local e h = absurd (omega arith)
+local-within limit x (one-local k _) e h = let c = leb-true (x + places k) limit (and-true (leb (x + places k) limit) true e .0) in omega arith
 
 -- ---- a test of every opcode
 

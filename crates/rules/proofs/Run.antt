@@ -16,7 +16,7 @@ use Rattle.rules.specs.Fetch.{Instruction, fetched}
 use Rattle.rules.specs.Questions.{Lent, frameAsked, needsAsked}
 use Rattle.rules.specs.Step.{frame, wordsAt, outcome, decision, decideOf, moved, written}
 use Rattle.rules.proofs.Step.{result, run-ordinary, run-return, run-throw, run-refused}
-use Rattle.rules.specs.Run.{Ran, ends, runFrom, uncounted, stepsOf, endBy}
+use Rattle.rules.specs.Run.{Ran, ends, runFrom, runAsked, runOf, uncounted, stepsOf, endBy, Ended, stopped, ended, Told, untaken, taken}
 
 -- ---- no step looks at the count
 
@@ -48,16 +48,17 @@ module _ (l : Lent) (s : State) (slots : List ℕ) where
 
 -- ---- the steps of a run
 
--- a run of k steps from s: k is at most the budget b; at k = b it has stopped, and before it has ended as the decision there says
-pub data Ended (l : Lent) (b k : ℕ) (r : Ran) : Type 0 where
-  stopped : k ≡ b → r .end ≡ End.Stopped → Ended l b k r
-  ended : k < b → endBy (decideOf l (r .state) (r .slots)) ≡ some (r .end) → Ended l b k r
+-- how k steps of a budget b ended
+data Ending (l : Lent) (b k : ℕ) (r : Ran) : Type 0 where
+  at-budget : k ≡ b → r .end ≡ End.Stopped → Ending l b k r
+  before : k < b → endBy (decideOf l (r .state) (r .slots)) ≡ some (r .end) → Ending l b k r
 
-pub record Leads (l : Lent) (b n : ℕ) (s : State) (slots : List ℕ) (r : Ran) : Type 0 where
-  pub taken : ℕ
-  pub counted : r .steps ≡ n + taken
-  pub led : stepsOf l taken (uncounted s) slots ≡ some (r .state, r .slots)
-  pub ending : Ended l b taken r
+-- a run of k steps from s, n having been taken already
+record Leads (l : Lent) (b n : ℕ) (s : State) (slots : List ℕ) (r : Ran) : Type 0 where
+  taken : ℕ
+  counted : r .steps ≡ n + taken
+  led : stepsOf l taken (uncounted s) slots ≡ some (r .state, r .slots)
+  ending : Ending l b taken r
 
 module _ (l : Lent) where
   step-first : (n : ℕ) (s : State) (slots : List ℕ) (u : Update) → decideOf l s slots ≡ Ordinary u
@@ -68,7 +69,7 @@ module _ (l : Lent) where
   -- an outcome or a refusal at once
   at-once : (b n : ℕ) (s : State) (slots : List ℕ) (e : End) → endBy (decideOf l s slots) ≡ some e → Leads l (suc b) n s slots (ends s slots n e)
   unfolding stepsOf
-  at-once b n s slots e h = record { taken = 0; counted = omega arith; led = refl; ending = ended (omega arith) (ap endBy (count-unseen l s slots) ∙ h) }
+  at-once b n s slots e h = record { taken = 0; counted = omega arith; led = refl; ending = before (omega arith) (ap endBy (count-unseen l s slots) ∙ h) }
 
   later : (b n : ℕ) (s : State) (slots : List ℕ) (u : Update) (r : Ran) → decideOf l s slots ≡ Ordinary u
       → Leads l b (suc n) (moved s (u .pc) (u .depth) 0) (written u slots) r → Leads l (suc b) n s slots r
@@ -79,13 +80,13 @@ module _ (l : Lent) where
     ending = go (h .ending);
   }
     where
-      go : Ended l b (h .taken) r → Ended l (suc b) (suc (h .taken)) r
-      go (stopped p q) = stopped (ap suc p) q
-      go (ended p q) = ended (omega arith) q
+      go : Ending l b (h .taken) r → Ending l (suc b) (suc (h .taken)) r
+      go (at-budget p q) = at-budget (ap suc p) q
+      go (before p q) = before (omega arith) q
 
-  pub run-leads : (b n : ℕ) (s : State) (slots : List ℕ) → Leads l b n s slots (runFrom l b n s slots)
+  run-leads : (b n : ℕ) (s : State) (slots : List ℕ) → Leads l b n s slots (runFrom l b n s slots)
   unfolding runFrom stepsOf
-  run-leads zero n s slots = record { taken = 0; counted = omega arith; led = refl; ending = stopped refl refl }
+  run-leads zero n s slots = record { taken = 0; counted = omega arith; led = refl; ending = at-budget refl refl }
   run-leads (suc b) n s slots = go (decideOf l s slots) refl (λ u. run-leads b (suc n) (moved s (u .pc) (u .depth) 0) (written u slots))
     where
       go : (d : Decision) → decideOf l s slots ≡ d → ((u : Update) → Leads l b (suc n) (moved s (u .pc) (u .depth) 0) (written u slots) (runFrom l b (suc n) (moved s (u .pc) (u .depth) 0) (written u slots)))
@@ -94,3 +95,20 @@ module _ (l : Lent) where
       go (Return v) e h = rw (run-return l b n s slots v e) (at-once b n s slots (End.Return v) (ap endBy e))
       go Throw e h = rw (run-throw l b n s slots e) (at-once b n s slots End.Throw (ap endBy e))
       go (Refused k) e h = rw (run-refused l b n s slots k e) (at-once b n s slots (End.Refused k) (ap endBy e))
+
+-- THE LAW: what a run says of itself
+pub run-told : (l : Lent) (budget : ℕ) (s : State) (slots : List ℕ) → Told l budget s slots (runOf l budget s slots)
+unfolding runOf
+run-told l budget s slots = go (frameAsked l s slots) refl
+  where
+    ended-as : (r : Ran) (k : ℕ) → r .steps ≡ k → Ending l budget k r → Ended l budget r
+    ended-as r k e (at-budget p q) = stopped (e ∙ p) q
+    ended-as r k e (before p q) = ended (rw e p) q
+
+    go : (x : Asked (Unit {0})) → frameAsked l s slots ≡ x → Told l budget s slots (runAsked l budget s slots x)
+    go (passed u) e =
+        let h = run-leads l budget 0 s slots in
+        let r = runFrom l budget 0 s slots in
+        let n : r .steps ≡ h .taken = h .counted ∙ omega arith in
+        taken e (rw n (h .led)) (ended-as r (h .taken) n (h .ending))
+    go (refused k) e = untaken k e refl

@@ -1,5 +1,6 @@
 -- A run: at most budget ordinary steps, without history. Assumes nothing.
-use Prim.Native.Nat.{ℕ, zero, suc}
+use Prim.Native.Nat.{ℕ, zero, suc, _<_}
+use mathlib.Core.Path.{_≡_}
 use mathlib.Core.List.{List}
 use mathlib.Core.Option.{Option, none, some}
 use Rattle.rules.specs.declared.State.{State}
@@ -62,3 +63,13 @@ endBy (Ordinary u) = none
 endBy (Return v) = some (End.Return v)
 endBy Throw = some End.Throw
 endBy (Refused k) = some (End.Refused k)
+
+-- a run that has ended: it stopped with its budget used up, or what it ended with is what the rules decide where it stands
+pub data Ended (l : Lent) (budget : ℕ) (r : Ran) : Type 0 where
+  stopped : r .steps ≡ budget → r .end ≡ End.Stopped → Ended l budget r
+  ended : r .steps < budget → endBy (decideOf l (r .state) (r .slots)) ≡ some (r .end) → Ended l budget r
+
+-- what a run says of itself: questions 1 to 3 refuse it and nothing changes; or its steps lead from the given state to the one it gives, where it ended
+pub data Told (l : Lent) (budget : ℕ) (s : State) (slots : List ℕ) (r : Ran) : Type 0 where
+  untaken : (k : ℕ) → frameAsked l s slots ≡ refused k → r ≡ record { state = s; steps = 0; end = End.Refused k; slots = slots } → Told l budget s slots r
+  taken : frameAsked l s slots ≡ passed tt → stepsOf l (r .steps) (uncounted s) slots ≡ some (r .state, r .slots) → Ended l budget r → Told l budget s slots r

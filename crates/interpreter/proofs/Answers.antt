@@ -1,0 +1,122 @@
+-- What the answers of the questions' functions say of the questions. Assumes nothing.
+use Prim.Native.Nat.{ℕ, _+_, _≤_}
+use mathlib.Core.Path.{_≡_, refl, ap}
+use mathlib.Core.Bool.{Bool, true, false}
+use mathlib.Core.List.{List}
+use native.Mathlib.Omega.{arith}
+use lib.Dec.{ltb}
+use lib.IntN.{ℤ, pos, negsuc}
+use lib.ListN.{length}
+use Rattle.values.specs.Integers.{low}
+use Rattle.rules.specs.declared.State.{State}
+use Rattle.rules.specs.declared.Decision.the-variants as Decision
+use Rattle.rules.specs.Asked.{Asked, passed, refused, _else_, _>>_}
+use Rattle.rules.specs.Fetch.{Instruction, fetched}
+use Rattle.rules.specs.Questions.{Lent, frameAsked}
+use Rattle.rules.specs.Step.{inside, decideOf}
+use Rattle.rules.proofs.Questions as rules
+use Rattle.rules.proofs.Fetched.{fetched-sound}
+use Rattle.rules.proofs.Step.{refused-by-frame, refused-by-fetch, refused-by-needs}
+use Rattle.operands.specs.declared.jump.Target.the-variants as Target
+use Rattle.operands.specs.Target.{targetOf}
+use Rattle.instructions.specs.declared.decoding.Decoded.the-variants as Decoded
+use Rattle.instructions.specs.Decode.{decoded}
+use Rattle.instructions.specs.Table.{isIn}
+use Rattle.effects.specs.Families.{sharedOpcodes}
+use Rattle.frame.specs.declared.questions.FrameAsked.the-variants as FrameAsked
+use Rattle.frame.specs.declared.places.Placed.{Placed}
+use Rattle.frame.specs.declared.places.Placed.the-variants as Placed
+use Rattle.frame.specs.FrameAnswer.{frameAnswer}
+use Rattle.frame.specs.Place.{placeOf}
+use Rattle.frame.proofs.Needs.{Says, place-says}
+use Rattle.interpreter.specs.Stages.{sharedIn, switchThere, locatedOf, locatedDecision}
+use Rattle.interpreter.proofs.Decision.{entryAt, listed, switch-there}
+use Rattle.interpreter.proofs.Sources.{located-decides}
+
+-- ---- questions 1 to 3
+
+pub frame-passed : (x : Asked (Unit {0})) → FrameAsked.Passed ≡ frameAnswer x → x ≡ passed tt
+frame-passed (passed t) e = refl
+frame-passed (refused n) e = let z : _≡_ {A = ℕ} 0 1 = cc in absurd (omega arith)
+
+pub frame-refused : (x : Asked (Unit {0})) (n : ℕ) → FrameAsked.Refused n ≡ frameAnswer x → x ≡ refused n
+frame-refused (passed t) n e = let z : _≡_ {A = ℕ} 0 1 = cc in absurd (omega arith)
+frame-refused (refused k) n e = cc
+
+pub by-frame : (l : Lent) (s : State) (slots : List ℕ) (n : ℕ) → FrameAsked.Refused n ≡ frameAnswer (frameAsked l s slots) → decideOf l s slots ≡ Decision.Refused n
+by-frame l s slots n e = refused-by-frame l s slots n (frame-refused (frameAsked l s slots) n e)
+
+-- ---- questions 4 and 5
+
+-- the instruction that was decoded
+pub record Decodes (code : List ℕ) (pc entry size index constant : ℕ) : Type 0 where
+  pub i : Instruction
+  pub at : fetched code pc ≡ passed i
+  pub entered : entry ≡ entryAt i
+  pub sized : size ≡ i .size
+  pub indexed : index ≡ i .operand .index
+  pub worded : constant ≡ low 32 (i .operand .constant)
+
+pub decodes : (code : List ℕ) (pc entry size index constant : ℕ) → Decoded.Instruction entry size index constant ≡ decoded (fetched code pc) → Decodes code pc entry size index constant
+unfolding decoded
+decodes code pc entry size index constant e = go (fetched code pc) refl e
+  where
+    go : (x : Asked Instruction) → fetched code pc ≡ x → Decoded.Instruction entry size index constant ≡ decoded x → Decodes code pc entry size index constant
+    go (passed i) f h = record { i = i; at = f; entered = cc; sized = cc; indexed = cc; worded = cc }
+    go (refused n) f h = let z : _≡_ {A = ℕ} 0 1 = cc in absurd (omega arith)
+
+not-decoded : (x : Asked Instruction) (n : ℕ) → Decoded.Refused n ≡ decoded x → x ≡ refused n
+unfolding decoded
+not-decoded (passed i) n e = let z : _≡_ {A = ℕ} 0 1 = cc in absurd (omega arith)
+not-decoded (refused k) n e = cc
+
+module _ (l : Lent) (s : State) (slots : List ℕ) (framed : frameAsked l s slots ≡ passed tt) where
+  pub by-fetch : (n : ℕ) → Decoded.Refused n ≡ decoded (fetched (l .code) (s .pc)) → decideOf l s slots ≡ Decision.Refused n
+  by-fetch n e = refused-by-fetch l s slots framed n (not-decoded (fetched (l .code) (s .pc)) n e)
+
+  -- ---- questions 6 to 10
+
+  module _ (entry size index constant : ℕ) (d : Decodes (l .code) (s .pc) entry size index constant) where
+    says : (x : Placed) → x ≡ placeOf entry index s → Says l s (d .i) x
+    says x e = rw (e, d .entered, d .indexed) (place-says (l .code) (s .pc) (d .i) (fetched-sound (l .code) (s .pc) (d .i) (d .at)) s l)
+
+    pub by-needs : (n : ℕ) → Placed.Refused n ≡ placeOf entry index s → decideOf l s slots ≡ Decision.Refused n
+    by-needs n e = refused-by-needs l s slots framed (d .i) (d .at) n (says (Placed.Refused n) e)
+
+    pub by-located : (first depth : ℕ) → Placed.At first depth ≡ placeOf entry index s
+        → locatedDecision l slots (s .pc) (locatedOf entry index constant (s .pc + size) first depth) ≡ decideOf l s slots
+    by-located first depth e =
+        rw (d .entered, d .sized, d .indexed, d .worded) (located-decides l s slots framed (d .i) (d .at) first depth (says (Placed.At first depth) e))
+
+    pub next-small : s .pc + size ≤ 65535
+    next-small =
+        let f = rules.framed l s slots framed in
+        let g = fetched-sound (l .code) (s .pc) (d .i) (d .at) in
+        let e = d .sized in
+        omega (arith, g .in-code)
+
+    pub in-table : isIn sharedOpcodes (sharedIn entry) ≡ true
+    in-table = rw (d .entered) (listed l s (d .i) (fetched-sound (l .code) (s .pc) (d .i) (d .at)))
+
+    pub in-code : switchThere (l .code) (s .pc) (sharedIn entry) ≡ true
+    in-code = rw (d .entered) (switch-there l s (d .i) (fetched-sound (l .code) (s .pc) (d .i) (d .at)))
+
+-- ---- question 10
+
+pub target-inside : (code : List ℕ) (z : ℤ) (n : ℕ) → Target.At n ≡ targetOf (inside code z) → inside code (pos n) ≡ inside code z
+unfolding targetOf _else_ _>>_
+target-inside code (pos m) n e = go (ltb m (length code)) e
+  where
+    go : (t : Bool) → Target.At n ≡ targetOf ((t else 11) >> passed m) → inside code (pos n) ≡ inside code (pos m)
+    go true h = ap (λ (k : ℕ). inside code (pos k)) (cc)
+    go false h = let y : _≡_ {A = ℕ} 0 1 = cc in absurd (omega arith)
+target-inside code (negsuc m) n e = let y : _≡_ {A = ℕ} 0 1 = cc in absurd (omega arith)
+
+pub target-outside : (code : List ℕ) (z : ℤ) → Target.Outside ≡ targetOf (inside code z) → inside code z ≡ refused 11
+unfolding targetOf _else_ _>>_
+target-outside code (pos m) e = go (ltb m (length code)) e
+  where
+    go : (t : Bool) → Target.Outside ≡ targetOf ((t else 11) >> passed m) → ((t else 11) >> passed m) ≡ refused 11
+    go true h = let y : _≡_ {A = ℕ} 0 1 = cc in absurd (omega arith)
+    go false h = refl
+target-outside code (negsuc m) e = refl

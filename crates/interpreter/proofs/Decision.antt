@@ -1,0 +1,135 @@
+-- An instruction that is decoded and placed comes to what the rules decide. Assumes nothing.
+use Prim.Native.Nat.{ℕ, _+_, _-_, _≤_}
+use mathlib.Core.Path.{_≡_, refl, sym, ap, _∙_}
+use mathlib.Core.Bool.{Bool, true, false, _||_, cond}
+use mathlib.Core.List.{List, [], _∷_}
+use lib.Dec.{eqb}
+use lib.IntN.{ℤ, pos}
+use lib.ListN.{take}
+use borrow.Author.Tests.{eqb-true}
+use Rattle.values.specs.Kinds.{int, placesOf}
+use Rattle.values.specs.Integers.{signed, low, _≤ᶻ_}
+use Rattle.values.specs.Words.{meaning}
+use Rattle.rules.specs.declared.State.{State}
+use Rattle.rules.specs.declared.Decision.{Decision}
+use Rattle.rules.specs.declared.Decision.the-variants as Decision
+use Rattle.rules.specs.Asked.{Asked, passed, refused, _>>=_}
+use Rattle.rules.specs.Forms.{Rule, Operand, Result, offsetFor, pushes, stores, divides, branches, returns}
+use Rattle.rules.specs.Instructions.{rowOf}
+use Rattle.rules.specs.Fetch.{Instruction, operands, lowKey, highKey, tableOperand, pairCount, pairsOperand, fetched}
+use Rattle.rules.specs.Questions.{Lent, popped, pushed, frameAsked, needsAsked}
+use Rattle.rules.specs.Step.{frame, base, wordsAt, update, inside, ordinary, following, target, outcome, decision, decideOf}
+use Rattle.rules.proofs.Rows.{works}
+use Rattle.rules.proofs.Fetched.{Sound}
+use Rattle.rules.proofs.Step.{result, decided}
+use Rattle.operands.specs.Switch.{offsetIn}
+use Rattle.instructions.specs.Table.{isIn, sharedOf, entryOf}
+use Rattle.instructions.proofs.Entries.{digits}
+use Rattle.effects.specs.declared.outcome.Effect.the-variants as Effect
+use Rattle.effects.specs.Effects.{six, effectOf, effectAt}
+use Rattle.effects.specs.Families.{sharedOpcodes}
+use Rattle.effects.proofs.OwnRow.{own-effect, shared-listed}
+use Rattle.frame.proofs.Needs.{Stands, pushed-in, locals-in}
+use Rattle.interpreter.specs.declared.finishing.Located.{Located}
+use Rattle.interpreter.specs.Stages.{sharedIn, locatedOf, ordinaryTo, switchThere, offsetAt, branchOf, finishOf}
+use Rattle.interpreter.proofs.Results.{doesFour, isStore, row-stores, offsetBy, offsetOf, row-offset, row-table, row-pairs}
+
+-- ---- what a result comes to
+
+module _ (l : Lent) (s : State) (i : Instruction) where
+  ordinary-is : (to : ℤ) (at n : ℕ) (ws : List ℕ) → decision (ordinary l s i to at n ws) ≡ ordinaryTo (inside (l .code) to) (s .depth - popped i + pushed i) at n (six ws)
+  unfolding _>>=_ ordinaryTo
+  ordinary-is to at n ws = go (inside (l .code) to)
+    where
+      go : (x : Asked ℕ) → decision (x >>= λ pc. passed (Decision.Ordinary (update pc (s .depth - popped i + pushed i) at n ws))) ≡ ordinaryTo x (s .depth - popped i + pushed i) at n (six ws)
+      go (passed pc) = refl
+      go (refused n) = refl
+
+  -- a located instruction is this one, if it stores where `store` says and branches by z on a key
+  record Locates (i′ : Located) (store : Bool) (z : ℤ) (key : ℕ) : Type 0 where
+    next : i′ .next ≡ s .pc + i .size
+    deep : i′ .depth ≡ s .depth - popped i + pushed i
+    first : i′ .first ≡ cond store (i .operand .index) (base s i)
+    many : i′ .many ≡ cond store (placesOf (i .rule .locals)) (pushed i)
+    offset : offsetAt (l .code) (s .pc) (i′ .op) (i′ .constant) key ≡ z
+
+  module _ (i′ : Located) (key : ℕ) (z : ℤ) where
+    finished-by : (r : Result) → Locates i′ (isStore r) (offsetBy z r) key → finishOf (l .code) (s .pc) i′ key (effectOf r) ≡ decision (outcome l s i r)
+    unfolding finishOf branchOf
+    finished-by (pushes ws) h = rw (h .next, h .deep, h .first, h .many) (sym (ordinary-is (following s i) (base s i) (pushed i) ws))
+    finished-by (stores ws) h = rw (h .next, h .deep, h .first, h .many) (sym (ordinary-is (following s i) (i .operand .index) (placesOf (i .rule .locals)) ws))
+    finished-by (divides by ws) h = go (eqb by 0)
+      where
+        go : (t : Bool) → finishOf (l .code) (s .pc) i′ key (cond t Effect.Throw (Effect.Words (six ws))) ≡ decision (cond t (passed Decision.Throw) (ordinary l s i (following s i) (base s i) (pushed i) ws))
+        go true = refl
+        go false = rw (h .next, h .deep, h .first, h .many) (sym (ordinary-is (following s i) (base s i) (pushed i) ws))
+    finished-by (branches t y) h = rw (h .next, h .deep, h .offset) (sym (ordinary-is (cond t (target s y) (following s i)) 0 0 []))
+    finished-by (returns v) h = refl
+
+-- ---- an instruction that is fetched
+
+abbrev pub entryAt : Instruction → ℕ
+entryAt i = entryOf (rowOf (i .opcode))
+
+abbrev pub locatedAt : State → Instruction → ℕ → ℕ → Located
+locatedAt s i first depth = locatedOf (entryAt i) (i .operand .index) (low 32 (i .operand .constant)) (s .pc + i .size) first depth
+
+module _ (l : Lent) (s : State) (i : Instruction) (f : Sound (l .code) (s .pc) i) where
+  pub shared-is : sharedIn (entryAt i) ≡ sharedOf (f .row)
+  shared-is = rw (f .found) (digits (i .opcode) (f .row) (f .found) .shared)
+
+  pub listed : isIn sharedOpcodes (sharedIn (entryAt i)) ≡ true
+  listed = rw shared-is (shared-listed (i .opcode) (f .row) (f .found))
+
+  -- its operand, with the constant taken from its word
+  operand-is : operands (i .operand .index) (signed 31 (low 32 (i .operand .constant))) (i .operand .pairs) ≡ i .operand
+  operand-is = rw (f .int-constant) refl
+
+  pub switch-there : switchThere (l .code) (s .pc) (sharedIn (entryAt i)) ≡ true
+  switch-there = rw shared-is (go (eqb (sharedOf (f .row)) 170) refl (eqb (sharedOf (f .row)) 171) refl)
+    where
+      go : (t : Bool) → eqb (sharedOf (f .row)) 170 ≡ t → (u : Bool) → eqb (sharedOf (f .row)) 171 ≡ u
+          → cond t (lowKey (l .code) (s .pc) ≤ᶻ highKey (l .code) (s .pc)) (cond u (pos 0 ≤ᶻ pairCount (l .code) (s .pc)) true) ≡ true
+      go true p u q = f .tables (row-table (i .opcode) (f .row) (f .found) (eqb-true _ _ p)) .1
+      go false p true q = f .lookups (row-pairs (i .opcode) (f .row) (f .found) (eqb-true _ _ q)) .1
+      go false p false q = refl
+
+  offset-is : (key : ℕ) → offsetAt (l .code) (s .pc) (sharedOf (f .row)) (low 32 (i .operand .constant)) key ≡ offsetOf (sharedOf (f .row)) (i .operand) key
+  unfolding offsetAt
+  offset-is key = go (eqb (sharedOf (f .row)) 170) refl (eqb (sharedOf (f .row)) 171) refl
+    where
+      go : (t : Bool) → eqb (sharedOf (f .row)) 170 ≡ t → (u : Bool) → eqb (sharedOf (f .row)) 171 ≡ u
+          → cond t (offsetIn (tableOperand (l .code) (s .pc)) (meaning int key)) (cond u (offsetIn (pairsOperand (l .code) (s .pc)) (meaning int key)) (meaning int (low 32 (i .operand .constant))))
+          ≡ cond (t || u) (offsetFor (meaning int key) (i .operand .constant) (i .operand .pairs)) (i .operand .constant)
+      go true p u q = ap (λ (o : Operand). offsetIn o (meaning int key)) (sym (f .tables (row-table (i .opcode) (f .row) (f .found) (eqb-true _ _ p)) .0))
+      go false p true q = ap (λ (o : Operand). offsetIn o (meaning int key)) (sym (f .lookups (row-pairs (i .opcode) (f .row) (f .found) (eqb-true _ _ q)) .0))
+      go false p false q = f .int-constant
+
+  module _ (first depth : ℕ) (st : Stands l s i first depth) where
+    located : (a b c d : ℕ) → Locates l s i (locatedAt s i first depth) (isStore (doesFour (f .row) (i .operand) a b c d)) (offsetBy (i .operand .constant) (doesFour (f .row) (i .operand) a b c d)) a
+    unfolding locatedOf
+    located a b c d =
+        rw (row-stores (i .opcode) (f .row) (f .found) (i .operand) a b c d, row-offset (i .opcode) (f .row) (f .found) (i .operand) a b c d)
+        (record {
+          next = refl;
+          deep = sym (st .deep);
+          first = rw (shared-is, st .based) refl;
+          many = rw (shared-is, locals-in _ _ i f, pushed-in _ _ i f) refl;
+          offset = rw shared-is (offset-is a);
+        })
+
+    -- once four words are what it works on
+    module _ (slots : List ℕ) (framed : frameAsked l s slots ≡ passed tt) (at : fetched (l .code) (s .pc) ≡ passed i) (needed : needsAsked l s i ≡ passed tt) where
+      pub from-words : (a b c d : ℕ) → wordsAt (i .rule .reads) l s (frame s slots) i ≡ take (works (i .rule)) (a ∷ b ∷ c ∷ d ∷ [])
+          → finishOf (l .code) (s .pc) (locatedAt s i first depth) a (effectAt (sharedIn (entryAt i)) (low 32 (i .operand .constant)) a b c d) ≡ decideOf l s slots
+      from-words a b c d w =
+          let four = a ∷ b ∷ c ∷ d ∷ [] in
+          let same : result l s slots i ≡ doesFour (f .row) (i .operand) a b c d =
+          ap (i .rule .does (i .operand)) w ∙ ap (λ (r : Rule). r .does (i .operand) (take (works r) (a ∷ b ∷ c ∷ d ∷ []))) (f .ruled) in
+          let own : effectAt (sharedIn (entryAt i)) (low 32 (i .operand .constant)) a b c d ≡ effectOf (doesFour (f .row) (i .operand) a b c d) =
+          rw shared-is (sym (own-effect (i .opcode) (f .row) (f .found) (i .operand .index) (low 32 (i .operand .constant)) (i .operand .pairs) a b c d)
+          ∙ ap (λ (o : Operand). effectOf (doesFour (f .row) o a b c d)) operand-is) in
+          ap (finishOf (l .code) (s .pc) (locatedAt s i first depth) a) own
+          ∙ finished-by l s i (locatedAt s i first depth) a (i .operand .constant) (doesFour (f .row) (i .operand) a b c d) (located a b c d)
+          ∙ ap (λ (r : Result). decision (outcome l s i r)) (sym same)
+          ∙ sym (decided l s slots framed i at needed)

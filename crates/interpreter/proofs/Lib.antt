@@ -1,0 +1,8 @@
+-- Laws for this crate's functions
+mod Results
+mod FewWords
+mod Constants
+mod Decision
+mod Sources
+mod Answers
+mod Turn

@@ -1,0 +1,35 @@
+-- `decide` meets its contract. Assumes nothing.
+use mathlib.Core.Path.{sym, _∙_}
+use Rattle.interpreter.proofs.Answers.{frame-passed, by-frame}
+use borrow.Author.Needs.{needs}
+use Rattle.interpreter.proofs.deciding.decide.Statement.{statement}
+use Rattle.interpreter.proofs.deciding.decide.Tie as tie
+
+ask-frame-requires : tie.Need-ask-frame-requires
+ask-frame-requires c κs = search needs
+
+enum-known-asked : tie.Need-enum-known-asked
+enum-known-asked c = search needs
+
+enum-told : tie.Need-enum-told
+enum-told c = search needs
+
+decide-framed-requires : tie.Need-decide-framed-requires
+decide-framed-requires c κs = frame-passed _ (sym (c .enum-told .given .1) ∙ c .before .before .ask-frame .ensures)
+
+returns : tie.Need-returns
+returns c = sym (by-frame _ _ _ _ (sym (c .before .asked .given .1) ∙ c .before .before .before .ask-frame .ensures))
+
+returns-2 : tie.Need-returns-2
+returns-2 c = search needs
+
+pub decide-spec : {M : Type 1} → statement M
+decide-spec =
+    tie.close
+    (tie.spec
+    ask-frame-requires
+    enum-known-asked
+    enum-told
+    decide-framed-requires
+    returns
+    returns-2)

@@ -1,0 +1,52 @@
+-- `run` meets its contract. Assumes nothing.
+use mathlib.Core.Path.{sym, _∙_}
+use denote.Ref.{now}
+use Rattle.rules.specs.Questions.{lent}
+use Rattle.interpreter.proofs.Answers.{frame-passed, frame-refused}
+use Rattle.interpreter.proofs.Turn.{told, refused-run, passed-run}
+use borrow.Author.Needs.{needs}
+use Rattle.interpreter.proofs.running.run.Statement.{statement}
+use Rattle.interpreter.proofs.running.run.Tie as tie
+
+ask-frame-requires : tie.Need-ask-frame-requires
+ask-frame-requires c κs = search needs
+
+enum-known-asked : tie.Need-enum-known-asked
+enum-known-asked c = search needs
+
+enum-told : tie.Need-enum-told
+enum-told c = search needs
+
+run-framed-requires : tie.Need-run-framed-requires
+run-framed-requires c κs = frame-passed _ (sym (c .before .enum-told .given .1) ∙ c .before .before .before .ask-frame .ensures)
+
+same-length : tie.Need-same-length
+same-length c = search needs
+
+returns : tie.Need-returns
+returns c =
+    let a = c .before .before .before .before .before .before .before .before .before .args in
+    let l = lent (now (a .code)) (now (a .kinds)) (now (a .words)) in
+    told l (a .budget) (a .s) (now (a .slots)) _ (refused-run l (a .budget) (a .s) (now (a .slots)) _ (frame-refused _ _ (sym (c .before .asked .given .1) ∙ c .before .before .before .ask-frame .ensures)))
+
+same-length-2 : tie.Need-same-length-2
+same-length-2 c = search needs
+
+returns-2 : tie.Need-returns-2
+returns-2 c =
+    let a = c .before .before .before .before .before .before .before .before .before .before .before .before .args in
+    let l = lent (now (a .code)) (now (a .kinds)) (now (a .words)) in
+    told l (a .budget) (a .s) (now (a .slots)) _ (c .before .before .run-framed .ensures ∙ passed-run l (a .budget) (a .s) (now (a .slots)) (frame-passed _ (sym (c .before .before .before .before .enum-told .given .1) ∙ c .before .before .before .before .before .before .ask-frame .ensures)))
+
+pub run-spec : {M : Type 1} → statement M
+run-spec =
+    tie.close
+    (tie.spec
+    ask-frame-requires
+    enum-known-asked
+    enum-told
+    run-framed-requires
+    same-length
+    returns
+    same-length-2
+    returns-2)

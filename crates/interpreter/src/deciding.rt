@@ -1,0 +1,92 @@
+// One step, decided with nothing written: questions 1 to 10 in their order, and what the instruction does.
+use crate::finishing::Located;
+use crate::finishing::finish;
+use crate::finishing::locate;
+use crate::reading::Read;
+use crate::reading::read_words;
+use effects::effect;
+use frame::FrameAsked;
+use frame::Placed;
+use frame::ask_frame;
+use frame::place;
+use instructions::Decoded;
+use instructions::decode;
+use rules::Decision;
+use rules::State;
+ghost use mathlib.Core.Path.{_≡_};
+ghost use mathlib.Core.Bool.{true};
+ghost use Prim.Native.Nat.{_≤_};
+ghost use lib.ListN.{length};
+ghost use Rattle.instructions.specs.Table.{isIn};
+ghost use Rattle.effects.specs.Families.{sharedOpcodes};
+ghost use Rattle.rules.specs.Asked.{passed};
+ghost use Rattle.rules.specs.Questions.{lent, frameAsked};
+ghost use Rattle.rules.specs.Step.{decideOf};
+ghost use Rattle.interpreter.specs.Stages.{switchThere, locatedDecision};
+
+// Question 9, what the instruction does, and question 10.
+fn decide_located(
+    code: &[u8],
+    kinds: &[u8],
+    words: &[u32],
+    slots: &[u32],
+    pc: u32,
+    i: Located,
+) -> Decision
+    requires { ⌜ length (now code) ≤ 65535 ⌝ }
+    requires { ⌜ isIn sharedOpcodes (i .op) ≡ true ⌝ }
+    requires { ⌜ switchThere (now code) pc (i .op) ≡ true ⌝ }
+    ensures { λ r. ⌜ r ≡ locatedDecision (lent (now (code .entry)) (now (kinds .entry)) (now (words .entry))) (now (slots .entry)) pc i ⌝ }
+{
+    let read = read_words(kinds, words, slots, i.op, i.index, i.base);
+    let Read::Words(w) = read else {
+        return Decision::Refused(10);
+    };
+    let does = effect(i.op, i.constant, w.a, w.b, w.c, w.d);
+    finish(code, pc, i, w.a, does)
+}
+
+// Questions 4 to 10, where questions 1 to 3 have passed.
+pub(crate) fn decide_framed(
+    code: &[u8],
+    kinds: &[u8],
+    words: &[u32],
+    slots: &[u32],
+    s: State,
+) -> Decision
+    requires { ⌜ frameAsked (lent (now code) (now kinds) (now words)) s (now slots) ≡ passed tt ⌝ }
+    ensures { λ r. ⌜ r ≡ decideOf (lent (now (code .entry)) (now (kinds .entry)) (now (words .entry))) s (now (slots .entry)) ⌝ }
+{
+    let pc = s.pc;
+    let decoded = decode(code, pc);
+    match decoded {
+        Decoded::Refused(n) => Decision::Refused(n),
+        Decoded::Instruction {
+            entry,
+            size,
+            index,
+            constant,
+        } => {
+            let placed = place(entry, index, s);
+            match placed {
+                Placed::Refused(n) => Decision::Refused(n),
+                Placed::At { base, depth } => {
+                    let next = pc as usize + size;
+                    let i = locate(entry, index, constant, next, base, depth);
+                    decide_located(code, kinds, words, slots, pc, i)
+                }
+            }
+        }
+    }
+}
+
+// One step on any code, pool, slots and state.
+pub fn decide(code: &[u8], kinds: &[u8], words: &[u32], slots: &[u32], s: State) -> Decision
+    ensures { λ r. ⌜ r ≡ decideOf (lent (now (code .entry)) (now (kinds .entry)) (now (words .entry))) s (now (slots .entry)) ⌝ }
+{
+    let asked = ask_frame(code, kinds, words, slots, s);
+    match asked {
+        FrameAsked::Refused(n) => Decision::Refused(n),
+        FrameAsked::Passed => decide_framed(code, kinds, words, slots, s),
+    }
+}

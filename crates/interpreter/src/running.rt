@@ -1,0 +1,91 @@
+// A run: ordinary steps, one after the other, up to a budget.
+use crate::deciding::decide_framed;
+use crate::stepping::moved;
+use frame::FrameAsked;
+use frame::ask_frame;
+use frame::commit;
+use rules::Decision;
+use rules::End;
+use rules::State;
+ghost use mathlib.Core.Path.{_≡_};
+ghost use Rattle.rules.specs.Asked.{passed};
+ghost use Rattle.rules.specs.Questions.{lent, frameAsked};
+ghost use Rattle.rules.specs.Run.{runFrom, runOf, Told};
+ghost use Rattle.interpreter.specs.Taken.{ran, endOf, endedAt};
+
+// The state that a run reached, how many ordinary steps it took, and what ended it.
+pub struct Ran {
+    pub state: State,
+    pub steps: u64,
+    pub end: End,
+}
+
+// What a decision that is not ordinary ends a run with.
+fn end_of(decision: Decision) -> End
+    ensures { λ r. ⌜ r ≡ endOf decision ⌝ }
+{
+    match decision {
+        Decision::Ordinary(_) => End::Stopped,
+        Decision::Return(v) => End::Return(v),
+        Decision::Throw => End::Throw,
+        Decision::Refused(n) => End::Refused(n),
+    }
+}
+
+// A run that stands at a state after some steps: its count is 0.
+fn ended(s: State, steps: u64, end: End) -> Ran
+    ensures { λ r. ⌜ r ≡ endedAt s steps end ⌝ }
+{
+    let state = moved(s, s.pc, s.depth, 0);
+    Ran { state, steps, end }
+}
+
+// At most budget steps, where questions 1 to 3 have passed. They stay passed, and are asked no more.
+fn run_framed(
+    code: &[u8],
+    kinds: &[u8],
+    words: &[u32],
+    slots: &mut [u32],
+    s: State,
+    budget: u64,
+) -> Ran
+    requires { ⌜ frameAsked (lent (now code) (now kinds) (now words)) s (now slots) ≡ passed tt ⌝ }
+    ensures { λ r. ⌜ ran r (now (slots .exit)) ≡ runFrom (lent (now (code .entry)) (now (kinds .entry)) (now (words .entry))) budget 0 s (now (slots .entry)) ⌝ }
+{
+    let mut t = s;
+    let mut steps: u64 = 0;
+    while steps < budget {
+        let decision = decide_framed(code, kinds, words, slots, t);
+        let Decision::Ordinary(u) = decision else {
+            let end = end_of(decision);
+            return ended(t, steps, end);
+        };
+        commit(slots, t, u);
+        t = moved(t, u.pc, u.depth, 0);
+        steps += 1;
+    }
+    ended(t, steps, End::Stopped)
+}
+
+// A run on any code, pool, slots and state: questions 1 to 3 come first, also with budget 0.
+pub fn run(
+    code: &[u8],
+    kinds: &[u8],
+    words: &[u32],
+    slots: &mut [u32],
+    s: State,
+    budget: u64,
+) -> Ran
+    ensures { λ r. ⌜ ran r (now (slots .exit)) ≡ runOf (lent (now (code .entry)) (now (kinds .entry)) (now (words .entry))) budget s (now (slots .entry)) ⌝ }
+    ensures { λ r. ⌜ Told (lent (now (code .entry)) (now (kinds .entry)) (now (words .entry))) budget s (now (slots .entry)) (ran r (now (slots .exit))) ⌝ }
+{
+    let asked = ask_frame(code, kinds, words, slots, s);
+    match asked {
+        FrameAsked::Refused(n) => Ran {
+            state: s,
+            steps: 0,
+            end: End::Refused(n),
+        },
+        FrameAsked::Passed => run_framed(code, kinds, words, slots, s, budget),
+    }
+}

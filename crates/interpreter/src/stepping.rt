@@ -1,0 +1,41 @@
+// One step, taken: decided, and then written in one place.
+use crate::deciding::decide;
+use frame::commit;
+use rules::Decision;
+use rules::State;
+ghost use mathlib.Core.Path.{_≡_};
+ghost use Rattle.rules.specs.Questions.{lent};
+ghost use Rattle.rules.specs.Step.{moved, stepOf};
+ghost use Rattle.interpreter.specs.Taken.{stepped};
+
+// The state after a step, and what the step came to.
+pub struct Stepped {
+    pub state: State,
+    pub decision: Decision,
+}
+
+// The state at another offset, depth and count. Every state after a step is made here.
+pub fn moved(s: State, pc: u32, depth: u32, count: u64) -> State
+    ensures { λ r. ⌜ r ≡ moved s pc depth count ⌝ }
+{
+    State {
+        max_stack: s.max_stack,
+        max_locals: s.max_locals,
+        pc,
+        depth,
+        count,
+    }
+}
+
+// A step without history: an ordinary one moves the state, with count 0, and writes its words; any other changes nothing.
+pub fn step(code: &[u8], kinds: &[u8], words: &[u32], slots: &mut [u32], s: State) -> Stepped
+    ensures { λ r. ⌜ stepped r (now (slots .exit)) ≡ stepOf (lent (now (code .entry)) (now (kinds .entry)) (now (words .entry))) s (now (slots .entry)) ⌝ }
+{
+    let decision = decide(code, kinds, words, slots, s);
+    let Decision::Ordinary(u) = decision else {
+        return Stepped { state: s, decision };
+    };
+    commit(slots, s, u);
+    let state = moved(s, u.pc, u.depth, 0);
+    Stepped { state, decision }
+}

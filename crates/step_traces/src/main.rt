@@ -1,0 +1,46 @@
+// Walks sample methods from standard input step by step, runs them, and prints what each step and each run comes to.
+// tools/vectors/methods.py writes the samples and says how a line is laid out; tools/vectors/tracing.py writes what must be printed.
+mod fields;
+mod printing;
+mod walking;
+
+use crate::fields::Line;
+use crate::fields::sample_of;
+use crate::printing::print;
+use crate::printing::print_name;
+use crate::walking::trace;
+
+// More lines than any file of samples has: the loop over them has to end.
+const MOST: u64 = 1_000_000;
+
+// A line, and how many bytes of it there were.
+struct Input {
+    line: Line,
+    count: usize,
+}
+
+// Reads a line. Blanks stand where the input ends early.
+fn read_line() -> Input {
+    let mut line = [b' '; 403];
+    let count = io::read_full(0, &mut line);
+    Input {
+        line: line,
+        count: count,
+    }
+}
+
+// Traces each sample.
+fn main() {
+    let mut turns = MOST;
+    while turns > 0 {
+        let input = read_line();
+        if input.count == 0 {
+            break;
+        }
+        let line = input.line;
+        print_name(&line);
+        trace(sample_of(&line));
+        print(b"\n");
+        turns -= 1;
+    }
+}

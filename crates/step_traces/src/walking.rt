@@ -1,0 +1,166 @@
+// A sample walked step by step, and run.
+use crate::fields::Sample;
+use crate::printing::print;
+use crate::printing::print_code;
+use crate::printing::print_decision;
+use crate::printing::print_end;
+use crate::printing::print_hex;
+use crate::printing::print_kinds;
+use crate::printing::print_number;
+use crate::printing::print_state;
+use crate::printing::print_words;
+use interpreter::run;
+use interpreter::step;
+use rules::Decision;
+use rules::State;
+ghost use Prim.Native.Nat.{_≤_};
+
+// A walk's and a run's limit of steps.
+const BUDGET: u64 = 60;
+
+// The word on top of the stack, if it has one in what is lent.
+enum Top {
+    Word(u32),
+    Nothing,
+}
+
+fn top_of(slots: &[u32], s: State) -> Top {
+    let place = s.max_locals as usize + s.depth as usize;
+    if s.depth == 0 {
+        return Top::Nothing;
+    }
+    if slots.len() < place {
+        return Top::Nothing;
+    }
+    Top::Word(slots[place - 1])
+}
+
+// The opcode at an offset, and 0 past the end.
+fn opcode_at(code: &[u8], pc: u32) -> u8 {
+    let at = pc as usize;
+    if at < code.len() { code[at] } else { 0 }
+}
+
+// Prints the line of an ordinary step: the steps before it, and where it began.
+fn print_step(steps: u64, s: State, opcode: u8, top: Top) {
+    io::print_decimal(1, steps);
+    print_number(s.pc as u64);
+    print_number(opcode as u64);
+    print_number(s.depth as u64);
+    match top {
+        Top::Word(word) => print_hex(word as u64, 8),
+        Top::Nothing => print(b" -"),
+    }
+    print(b"\n");
+}
+
+// Ends a line, and prints the slots and the state after it.
+fn print_after(slots: &[u32], s: State) {
+    print(b"\n");
+    print_words(b"slots", slots);
+    print_state(s);
+}
+
+// Walks step by step, prints a line for each, and gives the number of ordinary steps.
+fn walk(code: &[u8], kinds: &[u8], words: &[u32], slots: &mut [u32], s: State) -> u64 {
+    print_words(b"slots", slots);
+    print_state(s);
+    print(b"step pc op depth top\n");
+    let mut t = s;
+    let mut steps = 0;
+    while steps < BUDGET {
+        let top = top_of(slots, t);
+        let stepped = step(code, kinds, words, slots, t);
+        let decision = stepped.decision;
+        let Decision::Ordinary(_) = decision else {
+            print_decision(decision);
+            print_after(slots, t);
+            return steps;
+        };
+        print_step(steps, t, opcode_at(code, t.pc), top);
+        t = stepped.state;
+        steps += 1;
+    }
+    print(b"stopped");
+    print_after(slots, t);
+    steps
+}
+
+// Runs with a budget, and prints what it came to.
+fn print_run(code: &[u8], kinds: &[u8], words: &[u32], slots: &mut [u32], s: State, budget: u64) {
+    let ran = run(code, kinds, words, slots, s, budget);
+    print(b"run");
+    print_number(budget);
+    print_number(ran.steps);
+    print(b" ");
+    let end = ran.end;
+    print_end(end);
+    let state = ran.state;
+    print_after(slots, state);
+}
+
+// The lesser of two numbers.
+fn least(a: usize, b: usize) -> usize
+    ensures { λ r. ⌜ r ≤ b ⌝ }
+{
+    if a < b { a } else { b }
+}
+
+// Walks on the first n slots.
+fn walk_first(
+    code: &[u8],
+    kinds: &[u8],
+    words: &[u32],
+    slots: &mut [u32],
+    n: usize,
+    s: State,
+) -> u64 {
+    let m = least(n, slots.len());
+    walk(code, kinds, words, &mut slots[..m], s)
+}
+
+// Runs on the first n slots.
+fn run_first(
+    code: &[u8],
+    kinds: &[u8],
+    words: &[u32],
+    slots: &mut [u32],
+    n: usize,
+    s: State,
+    budget: u64,
+) {
+    let m = least(n, slots.len());
+    print_run(code, kinds, words, &mut slots[..m], s, budget);
+}
+
+// Prints what is lent of a sample, its walk, a run, and a run of half the walk, each on slots of its own.
+fn trace_lent(code: &[u8], kinds: &[u8], words: &[u32], slots: [u32; 12], n: usize, s: State) {
+    print_code(code);
+    print_kinds(kinds);
+    print_words(b"words", words);
+    let mut walked = slots;
+    let steps = walk_first(code, kinds, words, &mut walked, n, s);
+    let mut whole = slots;
+    run_first(code, kinds, words, &mut whole, n, s, BUDGET);
+    let mut half = slots;
+    run_first(code, kinds, words, &mut half, n, s, steps / 2);
+}
+
+// Traces a sample by the first bytes and words of its parts.
+fn trace_parts(code: &[u8], kinds: &[u8], words: &[u32], sample: Sample) {
+    let c = least(sample.code_length, code.len());
+    let k = least(sample.kinds_length, kinds.len());
+    let w = least(sample.words_length, words.len());
+    let n = sample.slots_length;
+    let slots = sample.slots;
+    let s = sample.state;
+    trace_lent(&code[..c], &kinds[..k], &words[..w], slots, n, s);
+}
+
+// Traces a sample.
+pub(crate) fn trace(sample: Sample) {
+    let code = sample.code;
+    let kinds = sample.kinds;
+    let words = sample.words;
+    trace_parts(&code, &kinds, &words, sample);
+}
