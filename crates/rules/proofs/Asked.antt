@@ -20,6 +20,11 @@ pub and-true : (a b : Bool) → (a && b) ≡ true → (a ≡ true) × (b ≡ tru
 and-true true b e = (refl, e)
 and-true false b e = let z : _≡_ {A = ℕ} 0 1 = cc in absurd (omega arith)
 
+pub bind-same : {A B : Type 0} (y : Asked B) (f g : B → Asked A) → ((b : B) → f b ≡ g b) → (y >>= f) ≡ (y >>= g)
+unfolding _>>=_
+bind-same (passed b) f g h = h b
+bind-same (refused n) f g h = refl
+
 -- ---- what holds of what passes
 
 module _ {A : Type 0} (P : A → Type 0) where

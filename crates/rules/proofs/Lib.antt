@@ -6,6 +6,8 @@ pub mod Step
 pub mod Fetched
 pub mod Legal
 pub mod Run
+pub mod Sheet
+pub mod Loaded
 -- Examples, which only the checker reads
 mod Given
 mod Examples
@@ -13,3 +15,4 @@ mod Shapes
 mod Facts
 mod Refusals
 mod Walks
+mod Sheets

@@ -15,15 +15,11 @@ use Rattle.rules.specs.Forms.{Result, pushes, stores, divides, branches,
 use Rattle.rules.specs.Fetch.{Instruction, fetched}
 use Rattle.rules.specs.Questions.{Lent, frameAsked, needsAsked}
 use Rattle.rules.specs.Step.{frame, wordsAt, outcome, decision, decideOf, moved, written}
+use Rattle.rules.proofs.Asked.{bind-same}
 use Rattle.rules.proofs.Step.{result, run-ordinary, run-return, run-throw, run-refused}
 use Rattle.rules.specs.Run.{Ran, ends, runFrom, runAsked, runOf, uncounted, stepsOf, endBy, Ended, stopped, ended, Told, untaken, taken}
 
 -- ---- no step looks at the count
-
-bind-same : {A B : Type 0} (y : Asked B) (f g : B → Asked A) → ((b : B) → f b ≡ g b) → (y >>= f) ≡ (y >>= g)
-unfolding _>>=_
-bind-same (passed b) f g h = h b
-bind-same (refused n) f g h = refl
 
 module _ (l : Lent) (s : State) (slots : List ℕ) where
   outcome-same : (i : Instruction) (r : Result) → outcome l (uncounted s) i r ≡ outcome l s i r

@@ -5,4 +5,5 @@ pub mod Fetch
 pub mod Questions
 pub mod Step
 pub mod Run
+pub mod Sheet
 pub mod Answers

@@ -40,3 +40,34 @@ pub enum End {
     Throw,
     Refused(u32),
 }
+
+// The marks of a sheet's records.
+pub enum Mark {
+    LM,
+    CD,
+    KI,
+    AR,
+}
+
+// What has been read of a sheet: the number of the last record's mark, the method's sizes, where its code begins in the sheet and how long it is, the highest
+// pool index used, and where the argument words begin and how many there are.
+pub struct Reading {
+    pub last: u32,
+    pub max_stack: u16,
+    pub max_locals: u16,
+    pub code: usize,
+    pub code_length: usize,
+    pub used: u32,
+    pub arguments: usize,
+    pub argument_count: usize,
+}
+
+// What a load comes to: the state, and where the code lies in the sheet; or the number of a refusal.
+pub enum Load {
+    Accepted {
+        state: State,
+        code: usize,
+        code_length: usize,
+    },
+    Refused(u32),
+}

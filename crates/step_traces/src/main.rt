@@ -1,14 +1,14 @@
 // Walks sample methods from standard input step by step, runs them, and prints what each step and each run comes to.
 // tools/vectors/methods.py writes the samples and says how a line is laid out; tools/vectors/tracing.py writes what must be printed.
 mod fields;
-mod printing;
+mod results;
 mod walking;
 
 use crate::fields::Line;
 use crate::fields::sample_of;
-use crate::printing::print;
-use crate::printing::print_name;
 use crate::walking::trace;
+use printing::print;
+use printing::print_word;
 
 // More lines than any file of samples has: the loop over them has to end.
 const MOST: u64 = 1_000_000;
@@ -27,6 +27,14 @@ fn read_line() -> Input {
         line: line,
         count: count,
     }
+}
+
+// Prints the name at the start of a line.
+fn print_name(line: &Line) {
+    print(b"method ");
+    let all = &line[..];
+    print_word(&all[0..40]);
+    print(b"\n");
 }
 
 // Traces each sample.

@@ -1,16 +1,16 @@
 // A sample walked step by step, and run.
 use crate::fields::Sample;
-use crate::printing::print;
-use crate::printing::print_code;
-use crate::printing::print_decision;
-use crate::printing::print_end;
-use crate::printing::print_hex;
-use crate::printing::print_kinds;
-use crate::printing::print_number;
-use crate::printing::print_state;
-use crate::printing::print_words;
+use crate::results::print_code;
+use crate::results::print_decision;
+use crate::results::print_end;
+use crate::results::print_kinds;
+use crate::results::print_state;
+use crate::results::print_words;
 use interpreter::run;
 use interpreter::step;
+use printing::print;
+use printing::print_hex;
+use printing::print_number;
 use rules::Decision;
 use rules::State;
 ghost use Prim.Native.Nat.{_≤_};

@@ -1,0 +1,49 @@
+// Text on standard output, piece by piece, for the programs.
+use libc::STDOUT_FILENO;
+
+// Prints some bytes.
+pub fn print(text: &[u8]) {
+    io::write_all(STDOUT_FILENO, text);
+}
+
+// Prints a byte.
+pub fn print_byte(byte: u8) {
+    let text = [byte; 1];
+    print(&text);
+}
+
+// Prints bytes up to the first blank.
+pub fn print_word(text: &[u8]) {
+    let mut i = 0;
+    while i < text.len() {
+        if text[i] == b' ' {
+            break;
+        }
+        print_byte(text[i]);
+        i += 1;
+    }
+}
+
+// Prints a number in decimal, with a blank before it.
+pub fn print_number(n: u64) {
+    print(b" ");
+    io::print_decimal(STDOUT_FILENO, n);
+}
+
+// An upper-case hexadecimal digit.
+fn digit(value: u64) -> u8 {
+    let v = (value % 16) as u8;
+    if v < 10 { b'0' + v } else { b'A' + (v - 10) }
+}
+
+// Prints the low digits of a number in hexadecimal, at most 16, with a blank before them.
+pub fn print_hex(n: u64, digits: u32) {
+    print_byte(b' ');
+    let mut i: u32 = 0;
+    while i < 16 {
+        if 16 - i <= digits {
+            print_byte(digit(n >> 60 - 4 * i));
+        }
+        i += 1;
+    }
+}

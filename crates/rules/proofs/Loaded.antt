@@ -1,0 +1,113 @@
+-- What an accepted load leaves: questions 1 to 3 pass, the frame is the arguments and then zeros, and the slots beyond it are as they were. Assumes nothing.
+use Prim.Native.Nat.{ℕ, zero, suc, _+_, _-_, _≤_, _<_}
+use mathlib.Core.Path.{_≡_, refl, sym, ap, _∙_}
+use mathlib.Core.Bool.{Bool, true, false, _||_, cond}
+use mathlib.Core.List.{List, [], _∷_, _++_}
+use native.Mathlib.Omega.{arith}
+use lib.Dec.{leb}
+use lib.ListN.{length, take, drop, set, replicate, length-set, length-append, length-drop, length-replicate}
+use lib.Seq.{length-take-le, take-at, drop-at}
+use borrow.Author.Tests.{leb-true, le-leb, eqb-true}
+use Rattle.rules.specs.declared.Reading.{Reading}
+use Rattle.rules.specs.declared.State.{State}
+use Rattle.rules.specs.declared.Load.the-variants as Load
+use Rattle.rules.specs.Asked.{passed}
+use Rattle.rules.specs.Fetch.{u8, u32}
+use Rattle.rules.specs.Questions.{Lent, lent, frameAsked}
+use Rattle.rules.specs.Step.{frame}
+use Rattle.rules.specs.Sheet.{recordEnd, bodyAt, poolIndex, isWide, sheetAsked, memoryAsked, Pool, withWords, withValue, poolFrom, loadedPool, argumentsFrom, loadedFrame, loadedSlots, loadedState, codeOf}
+use Rattle.rules.proofs.Asked.{first-passed, last-passed}
+use Rattle.rules.proofs.Questions.{Framed, frame-passed}
+use Rattle.rules.proofs.Sheet.{Within, sheet-within}
+
+-- ---- lengths
+
+length-words : (sheet : List ℕ) (at : ℕ) (words : List ℕ) → length (withWords sheet at words) ≡ length words
+unfolding withWords
+length-words sheet at words = go (isWide sheet at)
+  where
+    go : (t : Bool) → length (cond t (set (set words (poolIndex sheet at) (u32 sheet (bodyAt at + 7))) (poolIndex sheet at + 1) (u32 sheet (bodyAt at + 3))) (set words (poolIndex sheet at) (u32 sheet (bodyAt at + 3)))) ≡ length words
+    go true = simp length-set
+    go false = simp length-set
+
+pool-kinds : (n : ℕ) (sheet : List ℕ) (at end : ℕ) (p : Pool) → length (poolFrom n sheet at end p .kinds) ≡ length (p .kinds)
+unfolding poolFrom
+pool-kinds zero sheet at end p = refl
+pool-kinds (suc n) sheet at end p = go (pool-kinds n sheet (recordEnd sheet at) end (withValue sheet at p) ∙ simp length-set) (leb end at)
+  where
+    go : length (poolFrom n sheet (recordEnd sheet at) end (withValue sheet at p) .kinds) ≡ length (p .kinds) → (t : Bool)
+        → length ((cond t p (poolFrom n sheet (recordEnd sheet at) end (withValue sheet at p))) .kinds) ≡ length (p .kinds)
+    go h true = refl
+    go h false = h
+
+pool-words : (n : ℕ) (sheet : List ℕ) (at end : ℕ) (p : Pool) → length (poolFrom n sheet at end p .words) ≡ length (p .words)
+unfolding poolFrom
+pool-words zero sheet at end p = refl
+pool-words (suc n) sheet at end p = go (pool-words n sheet (recordEnd sheet at) end (withValue sheet at p) ∙ length-words sheet at (p .words)) (leb end at)
+  where
+    go : length (poolFrom n sheet (recordEnd sheet at) end (withValue sheet at p) .words) ≡ length (p .words) → (t : Bool)
+        → length ((cond t p (poolFrom n sheet (recordEnd sheet at) end (withValue sheet at p))) .words) ≡ length (p .words)
+    go h true = refl
+    go h false = h
+
+length-arguments : (sheet : List ℕ) (at n : ℕ) → length (argumentsFrom sheet at n) ≡ n
+unfolding argumentsFrom
+length-arguments sheet at zero = refl
+length-arguments sheet at (suc n) = ap suc (length-arguments sheet (at + 4) n)
+
+-- ---- an accepted load
+
+module _ (sheet slots kinds words : List ℕ) (bytes : (i : ℕ) → u8 sheet i < 256) (p : Reading) (read : sheetAsked sheet ≡ passed p) (fits : memoryAsked p slots kinds words ≡ passed tt) where
+  abbrev state : State
+  state = loadedState (p .«max_stack») (p .«max_locals»)
+
+  abbrev code : List ℕ
+  code = codeOf sheet (Load.Accepted (loadedState (p .«max_stack») (p .«max_locals»)) (p .code) (p .«code_length»))
+
+  within : Within sheet p
+  within = sheet-within sheet p read .0
+
+  last : p .last ≡ 4
+  last = sheet-within sheet p read .1
+
+  code-is : code ≡ take (p .«code_length») (drop (p .code) sheet)
+  code-is = let e = last in rw (le-leb (p .code + p .«code_length») (length sheet) (within .code-there (omega arith)))
+
+  code-length : length code ≡ p .«code_length»
+  code-length =
+      let e = last in
+      ap length code-is ∙ length-take-le (p .«code_length») (drop (p .code) sheet) (omega (arith, within .code-there (omega arith), length-drop (p .code) sheet))
+
+  frame-length : length (loadedFrame sheet p) ≡ p .«max_locals» + p .«max_stack»
+  frame-length =
+      let e = last in
+      length-append (argumentsFrom sheet (p .arguments) (p .«argument_count»)) _
+      ∙ omega (arith, length-arguments sheet (p .arguments) (p .«argument_count»), length-replicate {A = ℕ} (p .«max_locals» + p .«max_stack» - p .«argument_count») 0, within .few-arguments (omega arith))
+
+  pub frame-is : frame state (loadedSlots sheet p slots) ≡ loadedFrame sheet p
+  frame-is = take-at (loadedFrame sheet p) (drop (p .«max_locals» + p .«max_stack») slots) (p .«max_locals» + p .«max_stack») frame-length
+
+  pub beyond-is : drop (p .«max_locals» + p .«max_stack») (loadedSlots sheet p slots) ≡ drop (p .«max_locals» + p .«max_stack») slots
+  beyond-is = drop-at (loadedFrame sheet p) (drop (p .«max_locals» + p .«max_stack») slots) (p .«max_locals» + p .«max_stack») frame-length
+
+  pub loaded-passes : frameAsked (lent code (loadedPool sheet p kinds words .kinds) (loadedPool sheet p kinds words .words)) state (loadedSlots sheet p slots) ≡ passed tt
+  unfolding memoryAsked
+  loaded-passes =
+      let e = last in
+      let a = first-passed _ 26 _ fits in
+      let b = first-passed _ 26 _ (a .1) in
+      let c = first-passed _ 26 _ (b .1) in
+      let paired = eqb-true (length kinds) (length words) (c .0) in
+      let few = leb-true (length kinds) 65536 (last-passed _ 26 (c .1)) in
+      let room = leb-true (p .«max_locals» + p .«max_stack») (length slots) (a .0) in
+      let k : length (loadedPool sheet p kinds words .kinds) ≡ length kinds = pool-kinds _ sheet _ _ _ ∙ length-replicate (length kinds) 0 in
+      let w : length (loadedPool sheet p kinds words .words) ≡ length words = pool-words _ sheet _ _ _ ∙ length-replicate (length words) 0 in
+      frame-passed (lent code (loadedPool sheet p kinds words .kinds) (loadedPool sheet p kinds words .words)) state (loadedSlots sheet p slots) (record {
+        paired = k ∙ paired ∙ sym w;
+        pool = omega arith;
+        room = omega (arith, frame-length, length-append (loadedFrame sheet p) (drop (p .«max_locals» + p .«max_stack») slots));
+        some-code = omega (arith, code-length, within .some-code (omega arith));
+        short-code = omega (arith, code-length, within .short-code bytes);
+        in-code = omega (arith, code-length, within .some-code (omega arith));
+        deep = omega arith;
+      })

@@ -1,0 +1,274 @@
+-- What a sheet that is read says of what was read, and what an accepted load leaves. Assumes nothing.
+use Prim.Native.Nat.{ℕ, zero, suc, _+_, _-_, _*_, _/_, _%_, _≤_, _<_}
+use mathlib.Core.Path.{_≡_, refl, sym, ap, _∙_}
+use mathlib.Core.Bool.{Bool, true, false, _||_, cond}
+use mathlib.Core.List.{List}
+use native.Mathlib.Omega.{arith}
+use lib.Dec.{leb, eqb}
+use lib.ListN.{length, set}
+use borrow.Author.Tests.{leb-true, le-leb, lt-leb, le-ltb, lt-ltb, eqb-true, eq-eqb, ne-eqb}
+use Rattle.rules.specs.declared.Mark.{Mark}
+use Rattle.rules.specs.declared.Mark.the-variants.{LM, CD, KI, AR}
+use Rattle.rules.specs.declared.Reading.{Reading}
+use Rattle.rules.specs.declared.Load.the-variants as Load
+use Rattle.rules.specs.Asked.{Asked, passed, refused, _else_, _>>=_, _>>_}
+use Rattle.rules.specs.Fetch.{u8, u16, u32}
+use Rattle.rules.specs.Sheet.{bodyLength, bodyAt, recordEnd, knownMark, follows, rightLength, unread, withConstant, withArguments, poolIndex, poolTag, tagSuits, lastIndex, contentsAsked, recordAsked, endAsked, readFrom, sheetAsked, Pool, withWords, withValue, poolFrom, loadedPool, loadedSlots, loadedState, memoryAsked, loadOf}
+use Rattle.rules.proofs.Asked.{Holds, asked, bound, held, either, bind-same}
+
+-- ---- a record, question by question
+
+module _ (sheet : List ℕ) (at : ℕ) (p : Reading) where
+  -- 21
+  pub head-cut : length sheet < bodyAt at → recordAsked sheet at p ≡ refused 21
+  unfolding recordAsked _else_ _>>_
+  head-cut h = simp (lt-leb _ _ h)
+
+  pub body-cut : bodyAt at ≤ length sheet → length sheet < recordEnd sheet at → recordAsked sheet at p ≡ refused 21
+  unfolding recordAsked _else_ _>>_
+  body-cut h k = simp (le-leb _ _ h, lt-leb _ _ k)
+
+  module _ (head : bodyAt at ≤ length sheet) (there : recordEnd sheet at ≤ length sheet) where
+    -- 22
+    pub unknown : knownMark (u16 sheet at) ≡ refused 22 → recordAsked sheet at p ≡ refused 22
+    unfolding recordAsked _else_ _>>_ _>>=_
+    unknown e = simp (le-leb _ _ head, le-leb _ _ there, e)
+
+    module _ (m : Mark) (known : knownMark (u16 sheet at) ≡ passed m) where
+      -- 23
+      pub disordered : follows m (p .last) ≡ false → recordAsked sheet at p ≡ refused 23
+      unfolding recordAsked _else_ _>>_ _>>=_
+      disordered h = simp (le-leb _ _ head, le-leb _ _ there, known, h)
+
+      module _ (ordered : follows m (p .last) ≡ true) where
+        -- 24
+        pub wrong-length : rightLength m (bodyLength sheet at) ≡ false → recordAsked sheet at p ≡ refused 24
+        unfolding recordAsked _else_ _>>_ _>>=_
+        wrong-length h = simp (le-leb _ _ head, le-leb _ _ there, known, ordered, h)
+
+        pub to-contents : rightLength m (bodyLength sheet at) ≡ true → recordAsked sheet at p ≡ contentsAsked sheet at p m
+        unfolding recordAsked _else_ _>>_ _>>=_
+        to-contents h = simp (le-leb _ _ head, le-leb _ _ there, known, ordered, h)
+
+  -- 25
+  pub tag-unfit : tagSuits (poolTag sheet at) (bodyLength sheet at) ≡ false → contentsAsked sheet at p KI ≡ refused 25
+  unfolding contentsAsked _else_ _>>_
+  tag-unfit h = simp h
+
+  module _ (suits : tagSuits (poolTag sheet at) (bodyLength sheet at) ≡ true) where
+    pub index-used : poolIndex sheet at ≤ p .used → contentsAsked sheet at p KI ≡ refused 25
+    unfolding contentsAsked _else_ _>>_
+    index-used h = simp (suits, le-ltb _ _ h)
+
+    module _ (above : p .used < poolIndex sheet at) where
+      pub index-past : 65535 < lastIndex sheet at → contentsAsked sheet at p KI ≡ refused 25
+      unfolding contentsAsked _else_ _>>_
+      index-past h = simp (suits, lt-ltb _ _ above, lt-leb _ _ h)
+
+      pub constant-read : lastIndex sheet at ≤ 65535 → contentsAsked sheet at p KI ≡ passed (withConstant p (lastIndex sheet at))
+      unfolding contentsAsked _else_ _>>_
+      constant-read h = simp (suits, lt-ltb _ _ above, le-leb _ _ h)
+
+  -- 27
+  pub too-many : p .«max_locals» < bodyLength sheet at / 4 → contentsAsked sheet at p AR ≡ refused 27
+  unfolding contentsAsked _else_ _>>_
+  too-many h = simp (lt-leb _ _ h)
+
+  pub arguments-read : bodyLength sheet at / 4 ≤ p .«max_locals» → contentsAsked sheet at p AR ≡ passed (withArguments p (bodyAt at) (bodyLength sheet at / 4))
+  unfolding contentsAsked _else_ _>>_
+  arguments-read h = simp (le-leb _ _ h)
+
+-- a record that is read ends in the sheet
+Ends : List ℕ → ℕ → Reading → Type 0
+Ends sheet at r = recordEnd sheet at ≤ length sheet
+
+always : (sheet : List ℕ) (at : ℕ) (x : Asked Reading) → recordEnd sheet at ≤ length sheet → Holds (Ends sheet at) x
+unfolding Holds Ends
+always sheet at (passed r) h = h
+always sheet at (refused n) h = tt
+
+pub record-there : (sheet : List ℕ) (at : ℕ) (p q : Reading) → recordAsked sheet at p ≡ passed q → recordEnd sheet at ≤ length sheet
+unfolding recordAsked Ends
+record-there sheet at p q e =
+    held (Ends sheet at) (recordAsked sheet at p) q (asked (Ends sheet at) _ 21 _ (λ _. asked (Ends sheet at) _ 21 _ (λ h. always sheet at _ (leb-true _ _ h)))) e
+
+-- ---- record by record: as many turns as there are bytes left are enough
+
+module _ (sheet : List ℕ) where
+  pub read-end : (n at : ℕ) (p : Reading) → length sheet ≤ at → readFrom n sheet at p ≡ endAsked p
+  unfolding readFrom
+  read-end zero at p h = refl
+  read-end (suc n) at p h = rw (le-leb (length sheet) at h)
+
+  read-enough : (m n at : ℕ) (p : Reading) → length sheet - at ≤ m → length sheet - at ≤ n → readFrom m sheet at p ≡ readFrom n sheet at p
+  unfolding readFrom
+  read-enough zero n at p h k = sym (read-end n at p (omega arith))
+  read-enough (suc m) zero at p h k = read-end (suc m) at p (omega arith)
+  read-enough (suc m) (suc n) at p h k =
+      ap (λ (x : Asked Reading). cond (leb (length sheet) at) (endAsked p) x)
+      (bind-same (recordAsked sheet at p) _ _ (λ q. read-enough m n (recordEnd sheet at) q (omega arith) (omega arith)))
+
+  module _ (at : ℕ) (p : Reading) (more : at < length sheet) where
+    one-record : readFrom (length sheet - at) sheet at p ≡ (recordAsked sheet at p >>= λ q. readFrom (length sheet - recordEnd sheet at) sheet (recordEnd sheet at) q)
+    unfolding readFrom
+    one-record =
+        let n = length sheet - at - 1 in
+        let e : length sheet - at ≡ suc (length sheet - at - 1) = omega arith in
+        ap (λ (k : ℕ). readFrom k sheet at p) e
+        ∙ ap (λ (t : Bool). cond t (endAsked p) (recordAsked sheet at p >>= λ q. readFrom n sheet (recordEnd sheet at) q)) (lt-leb (length sheet) at more)
+        ∙ bind-same (recordAsked sheet at p) _ _ (λ q. read-enough n (length sheet - recordEnd sheet at) (recordEnd sheet at) q (omega arith) (omega arith))
+
+    pub next-record : (q : Reading) → recordAsked sheet at p ≡ passed q
+        → readFrom (length sheet - at) sheet at p ≡ readFrom (length sheet - recordEnd sheet at) sheet (recordEnd sheet at) q
+    unfolding _>>=_
+    next-record q e = rw e at one-record
+
+    pub bad-record : (k : ℕ) → recordAsked sheet at p ≡ refused k → readFrom (length sheet - at) sheet at p ≡ refused k
+    unfolding _>>=_
+    bad-record k e = rw e at one-record
+
+-- ---- constant by constant
+
+module _ (sheet : List ℕ) (at : ℕ) (words : List ℕ) where
+  pub wide-words : bodyLength sheet at ≡ 11 → set (set words (poolIndex sheet at) (u32 sheet (bodyAt at + 7))) (poolIndex sheet at + 1) (u32 sheet (bodyAt at + 3)) ≡ withWords sheet at words
+  unfolding withWords
+  wide-words e = rw (eq-eqb (bodyLength sheet at) 11 e)
+
+  pub narrow-words : (bodyLength sheet at ≡ 11 → ⊥) → set words (poolIndex sheet at) (u32 sheet (bodyAt at + 3)) ≡ withWords sheet at words
+  unfolding withWords
+  narrow-words e = rw (ne-eqb (bodyLength sheet at) 11 e)
+
+module _ (sheet : List ℕ) (end : ℕ) where
+  pub pool-end : (n at : ℕ) (p : Pool) → end ≤ at → poolFrom n sheet at end p ≡ p
+  unfolding poolFrom
+  pool-end zero at p h = refl
+  pool-end (suc n) at p h = rw (le-leb end at h)
+
+  pool-enough : (m n at : ℕ) (p : Pool) → end - at ≤ m → end - at ≤ n → poolFrom m sheet at end p ≡ poolFrom n sheet at end p
+  unfolding poolFrom
+  pool-enough zero n at p h k = sym (pool-end n at p (omega arith))
+  pool-enough (suc m) zero at p h k = pool-end (suc m) at p (omega arith)
+  pool-enough (suc m) (suc n) at p h k =
+      ap (λ (x : Pool). cond (leb end at) p x) (pool-enough m n (recordEnd sheet at) (withValue sheet at p) (omega arith) (omega arith))
+
+  pub next-constant : (at : ℕ) (p : Pool) → at < end → poolFrom (end - at) sheet at end p ≡ poolFrom (end - recordEnd sheet at) sheet (recordEnd sheet at) end (withValue sheet at p)
+  unfolding poolFrom
+  next-constant at p more =
+      let n = end - at - 1 in
+      let e : end - at ≡ suc (end - at - 1) = omega arith in
+      ap (λ (k : ℕ). poolFrom k sheet at end p) e
+      ∙ ap (λ (t : Bool). cond t p (poolFrom n sheet (recordEnd sheet at) end (withValue sheet at p))) (lt-leb end at more)
+      ∙ pool-enough n (end - recordEnd sheet at) (recordEnd sheet at) (withValue sheet at p) (omega arith) (omega arith)
+
+-- ---- what was read lies in the sheet
+
+-- of the code once it is read, and of the arguments once they are
+pub record Within (sheet : List ℕ) (p : Reading) : Type 0 where
+  pub code-there : 2 ≤ p .last → p .code + p .«code_length» ≤ length sheet
+  pub some-code : 2 ≤ p .last → 1 ≤ p .«code_length»
+  pub short-code : ((i : ℕ) → u8 sheet i < 256) → p .«code_length» ≤ 65535
+  pub after-head : 4 ≤ p .last → 4 ≤ p .arguments
+  pub arguments-there : 4 ≤ p .last → p .arguments + 4 * p .«argument_count» ≤ length sheet
+  pub few-arguments : 4 ≤ p .last → p .«argument_count» ≤ p .«max_locals»
+
+-- a KI or an AR record comes after the code
+after-code : (last : ℕ) → (eqb last 2 || eqb last 3) ≡ true → 2 ≤ last
+after-code last e = go (eqb last 2) refl (eqb last 3) refl e
+  where
+    go : (t : Bool) → eqb last 2 ≡ t → (u : Bool) → eqb last 3 ≡ u → (t || u) ≡ true → 2 ≤ last
+    go true p u q r = let k = eqb-true last 2 p in omega arith
+    go false p true q r = let k = eqb-true last 3 q in omega arith
+    go false p false q r = let z : _≡_ {A = ℕ} 0 1 = cc in absurd (omega arith)
+
+module _ (sheet : List ℕ) where
+  W : Reading → Type 0
+  W p = Within sheet p
+
+  body-short : (at : ℕ) → ((i : ℕ) → u8 sheet i < 256) → bodyLength sheet at ≤ 65535
+  body-short at bytes = omega (arith, bytes (at + 2), bytes (at + 2 + 1))
+
+  module _ (at : ℕ) (p : Reading) (h : Within sheet p) (there : recordEnd sheet at ≤ length sheet) where
+    contents-within : (m : Mark) → follows m (p .last) ≡ true → rightLength m (bodyLength sheet at) ≡ true → Holds W (contentsAsked sheet at p m)
+    unfolding Holds W contentsAsked
+    contents-within LM f r = record {
+      code-there = λ k. absurd (omega arith);
+      some-code = λ k. absurd (omega arith);
+      short-code = h .short-code;
+      after-head = λ k. absurd (omega arith);
+      arguments-there = λ k. absurd (omega arith);
+      few-arguments = λ k. absurd (omega arith);
+    }
+    contents-within CD f r = record {
+      code-there = λ k. there;
+      some-code = λ k. leb-true _ _ r;
+      short-code = body-short at;
+      after-head = λ k. absurd (omega arith);
+      arguments-there = λ k. absurd (omega arith);
+      few-arguments = λ k. absurd (omega arith);
+    }
+    contents-within KI f r = asked W _ 25 _ (λ _. asked W _ 25 _ (λ _. asked W _ 25 _ (λ _. record {
+      code-there = λ k. h .code-there (after-code (p .last) f);
+      some-code = λ k. h .some-code (after-code (p .last) f);
+      short-code = h .short-code;
+      after-head = λ k. absurd (omega arith);
+      arguments-there = λ k. absurd (omega arith);
+      few-arguments = λ k. absurd (omega arith);
+    })))
+    contents-within AR f r = asked W _ 27 _ (λ few. record {
+      code-there = λ k. h .code-there (after-code (p .last) f);
+      some-code = λ k. h .some-code (after-code (p .last) f);
+      short-code = h .short-code;
+      after-head = λ k. omega arith;
+      arguments-there = λ k. let e = eqb-true (bodyLength sheet at % 4) 0 r in omega arith;
+      few-arguments = λ k. leb-true _ _ few;
+    })
+
+  record-within : (at : ℕ) (p : Reading) → Within sheet p → Holds W (recordAsked sheet at p)
+  unfolding recordAsked
+  record-within at p h = asked W _ 21 _ (λ _. asked W _ 21 _ (λ there. bound W (knownMark (u16 sheet at)) _ (λ m e.
+      asked W _ 23 _ (λ f. asked W _ 24 _ (λ r. contents-within at p h (leb-true (recordEnd sheet at) (length sheet) there) m f r)))))
+
+  -- the whole sheet
+  Whole : Reading → Type 0
+  Whole p = (Within sheet p) × (p .last ≡ 4)
+
+  end-within : (p : Reading) → Within sheet p → Holds Whole (endAsked p)
+  unfolding Holds Whole
+  end-within p h = asked Whole _ 23 _ (λ e. (h, eqb-true _ _ e))
+
+  read-within : (n at : ℕ) (p : Reading) → Within sheet p → Holds Whole (readFrom n sheet at p)
+  unfolding readFrom W
+  read-within zero at p h = end-within p h
+  read-within (suc n) at p h =
+      either Whole (leb (length sheet) at) _ _ (end-within p h) (bound Whole (recordAsked sheet at p) _ (λ q e. read-within n (recordEnd sheet at) q (held W (recordAsked sheet at p) q (record-within at p h) e)))
+
+  pub sheet-within : (p : Reading) → sheetAsked sheet ≡ passed p → (Within sheet p) × (p .last ≡ 4)
+  unfolding sheetAsked Whole
+  sheet-within p e = held Whole (sheetAsked sheet) p (read-within (length sheet) 0 unread nothing-read) e
+    where
+      nothing-read : Within sheet unread
+      nothing-read = record {
+        code-there = λ k. absurd (omega arith);
+        some-code = λ k. absurd (omega arith);
+        short-code = λ b. omega arith;
+        after-head = λ k. absurd (omega arith);
+        arguments-there = λ k. absurd (omega arith);
+        few-arguments = λ k. absurd (omega arith);
+      }
+
+-- ---- the load by the answers to its questions
+
+module _ (sheet slots kinds words : List ℕ) where
+  pub load-refused : (n : ℕ) → sheetAsked sheet ≡ refused n → record { load = Load.Refused n; slots = slots; kinds = kinds; words = words } ≡ loadOf sheet slots kinds words
+  unfolding loadOf _>>=_
+  load-refused n e = rw e
+
+  module _ (p : Reading) (read : sheetAsked sheet ≡ passed p) where
+    pub load-short : (n : ℕ) → memoryAsked p slots kinds words ≡ refused n → record { load = Load.Refused n; slots = slots; kinds = kinds; words = words } ≡ loadOf sheet slots kinds words
+    unfolding loadOf _>>=_ _>>_
+    load-short n e = rw (read, e)
+
+    pub load-accepted : memoryAsked p slots kinds words ≡ passed tt → (filled : Pool) → filled ≡ loadedPool sheet p kinds words
+        → record { load = Load.Accepted (loadedState (p .«max_stack») (p .«max_locals»)) (p .code) (p .«code_length»); slots = loadedSlots sheet p slots; kinds = filled .kinds; words = filled .words } ≡ loadOf sheet slots kinds words
+    unfolding loadOf _>>=_ _>>_
+    load-accepted e filled f = rw (read, e, f)

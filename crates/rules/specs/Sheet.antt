@@ -1,0 +1,227 @@
+-- The sheet (document 01): its records, what is asked of each and of the lent memory, and what an accepted load fills and gives. Assumes nothing.
+use Prim.Native.Nat.{ℕ, zero, suc, _+_, _/_, _%_, _-_}
+use mathlib.Core.Bool.{Bool, _||_, cond}
+use mathlib.Core.List.{List, [], _∷_, _++_}
+use lib.ListN.{length, take, drop, set, replicate}
+use Rattle.rules.specs.declared.State.{State}
+use Rattle.rules.specs.declared.Mark.{Mark}
+use Rattle.rules.specs.declared.Mark.the-variants.{LM, CD, KI, AR}
+use Rattle.rules.specs.declared.Reading.{Reading}
+use Rattle.rules.specs.declared.Load.{Load}
+use Rattle.rules.specs.declared.Load.the-variants as Load
+use Rattle.rules.specs.Asked.{Asked, passed, refused, _else_, _>>=_, _>>_, _≤ⁿ_, _<ⁿ_, _=ⁿ_}
+use Rattle.rules.specs.Fetch.{u8, u16, u32}
+
+-- ---- a record at an offset of the sheet: a mark of two ASCII bytes, the length of its body in 16 bits, the body
+
+abbrev pub bodyLength : List ℕ → ℕ → ℕ
+bodyLength sheet at = u16 sheet (at + 2)
+
+abbrev pub bodyAt : ℕ → ℕ
+bodyAt at = at + 4
+
+-- where the next record begins
+abbrev pub recordEnd : List ℕ → ℕ → ℕ
+recordEnd sheet at = bodyAt at + bodyLength sheet at
+
+abbrev pub knownMark : ℕ → Asked Mark
+knownMark n = cond (n =ⁿ 0x4C4D) (passed LM) (cond (n =ⁿ 0x4344) (passed CD) (cond (n =ⁿ 0x4B49) (passed KI) (cond (n =ⁿ 0x4152) (passed AR) (refused 22))))
+
+-- the order: LM, CD, any number of KI, AR. 0 stands before the first record
+abbrev pub markNumber : Mark → ℕ
+markNumber LM = 1
+markNumber CD = 2
+markNumber KI = 3
+markNumber AR = 4
+
+abbrev pub follows : Mark → ℕ → Bool
+follows LM last = last =ⁿ 0
+follows CD last = last =ⁿ 1
+follows KI last = (last =ⁿ 2) || (last =ⁿ 3)
+follows AR last = (last =ⁿ 2) || (last =ⁿ 3)
+
+abbrev pub rightLength : Mark → ℕ → Bool
+rightLength LM n = n =ⁿ 4
+rightLength CD n = 1 ≤ⁿ n
+rightLength KI n = (n =ⁿ 7) || (n =ⁿ 11)
+rightLength AR n = n % 4 =ⁿ 0
+
+-- ---- what a record adds to what has been read
+
+-- nothing yet
+abbrev pub unread : Reading
+unread = record { last = 0; «max_stack» = 0; «max_locals» = 0; code = 0; «code_length» = 0; used = 0; arguments = 0; «argument_count» = 0 }
+
+-- LM: max_stack, max_locals
+abbrev pub withLimits : Reading → ℕ → ℕ → Reading
+withLimits p stack locals =
+    record { last = 1; «max_stack» = stack; «max_locals» = locals; code = p .code; «code_length» = p .«code_length»; used = p .used; arguments = p .arguments; «argument_count» = p .«argument_count» }
+
+-- CD: the code
+abbrev pub withCode : Reading → ℕ → ℕ → Reading
+withCode p at n =
+    record { last = 2; «max_stack» = p .«max_stack»; «max_locals» = p .«max_locals»; code = at; «code_length» = n; used = p .used; arguments = p .arguments; «argument_count» = p .«argument_count» }
+
+-- KI: a constant, up to its last pool index
+abbrev pub withConstant : Reading → ℕ → Reading
+withConstant p used =
+    record { last = 3; «max_stack» = p .«max_stack»; «max_locals» = p .«max_locals»; code = p .code; «code_length» = p .«code_length»; used = used; arguments = p .arguments; «argument_count» = p .«argument_count» }
+
+-- AR: the argument words
+abbrev pub withArguments : Reading → ℕ → ℕ → Reading
+withArguments p at n =
+    record { last = 4; «max_stack» = p .«max_stack»; «max_locals» = p .«max_locals»; code = p .code; «code_length» = p .«code_length»; used = p .used; arguments = at; «argument_count» = n }
+
+-- KI: pool index, tag, value. A long or a double uses two indices
+abbrev pub poolIndex : List ℕ → ℕ → ℕ
+poolIndex sheet at = u16 sheet (bodyAt at)
+
+abbrev pub poolTag : List ℕ → ℕ → ℕ
+poolTag sheet at = u8 sheet (bodyAt at + 2)
+
+-- 7 bytes for an int or a float, and else 11 for a long or a double
+abbrev pub tagSuits : ℕ → ℕ → Bool
+tagSuits tag n = cond (n =ⁿ 7) ((tag =ⁿ 3) || (tag =ⁿ 4)) ((tag =ⁿ 5) || (tag =ⁿ 6))
+
+abbrev pub isWide : List ℕ → ℕ → Bool
+isWide sheet at = bodyLength sheet at =ⁿ 11
+
+unfoldable pub lastIndex : List ℕ → ℕ → ℕ
+lastIndex sheet at = cond (isWide sheet at) (poolIndex sheet at + 1) (poolIndex sheet at)
+
+-- KI: tag suits length, index above 0 and all used, a long's second at most 65,535? 25. AR: arguments at most max_locals? 27
+unfoldable pub contentsAsked : List ℕ → ℕ → Reading → Mark → Asked Reading
+contentsAsked sheet at p LM = passed (withLimits p (u16 sheet (bodyAt at)) (u16 sheet (bodyAt at + 2)))
+contentsAsked sheet at p CD = passed (withCode p (bodyAt at) (bodyLength sheet at))
+contentsAsked sheet at p KI = do
+  tagSuits (poolTag sheet at) (bodyLength sheet at) else 25
+  p .used <ⁿ poolIndex sheet at else 25
+  lastIndex sheet at ≤ⁿ 65535 else 25
+  passed (withConstant p (lastIndex sheet at))
+contentsAsked sheet at p AR = do
+  bodyLength sheet at / 4 ≤ⁿ p .«max_locals» else 27
+  passed (withArguments p (bodyAt at) (bodyLength sheet at / 4))
+
+-- four bytes and the body present? 21. Mark known? 22. Order as above? 23. Length right? 24. Then 25 or 27
+unfoldable pub recordAsked : List ℕ → ℕ → Reading → Asked Reading
+recordAsked sheet at p = do
+  bodyAt at ≤ⁿ length sheet else 21
+  recordEnd sheet at ≤ⁿ length sheet else 21
+  m ← knownMark (u16 sheet at)
+  follows m (p .last) else 23
+  rightLength m (bodyLength sheet at) else 24
+  contentsAsked sheet at p m
+
+-- at the end of the bytes: was AR seen? 23
+abbrev pub endAsked : Reading → Asked Reading
+endAsked p = do
+  p .last =ⁿ 4 else 23
+  passed p
+
+-- record by record from an offset on. A record has at least four bytes, so that as many turns as there are bytes left are more than enough
+unfoldable pub readFrom : ℕ → List ℕ → ℕ → Reading → Asked Reading
+readFrom zero sheet at p = endAsked p
+readFrom (suc n) sheet at p = cond (length sheet ≤ⁿ at) (endAsked p) (do
+  q ← recordAsked sheet at p
+  readFrom n sheet (recordEnd sheet at) q)
+
+unfoldable pub sheetAsked : List ℕ → Asked Reading
+sheetAsked sheet = readFrom (length sheet) sheet 0 unread
+
+-- then: do slots, kinds and words reach, kinds and words equally long, at most 65,536? 26
+unfoldable pub memoryAsked : Reading → List ℕ → List ℕ → List ℕ → Asked (Unit {0})
+memoryAsked p slots kinds words = do
+  p .«max_locals» + p .«max_stack» ≤ⁿ length slots else 26
+  (p .used =ⁿ 0) || (p .used <ⁿ length kinds) else 26
+  length kinds =ⁿ length words else 26
+  length kinds ≤ⁿ 65536 else 26
+
+-- ---- what an accepted load fills
+
+pub record Pool : Type 0 where
+  pub kinds : List ℕ
+  pub words : List ℕ
+
+-- a KI record: tag and word at the index; a long's low word there and its high word, with kind 0, at the next. The value is big-endian, so that a long's high
+-- word stands first
+abbrev pub withKind : List ℕ → ℕ → List ℕ → List ℕ
+withKind sheet at kinds = set kinds (poolIndex sheet at) (poolTag sheet at)
+
+unfoldable pub withWords : List ℕ → ℕ → List ℕ → List ℕ
+withWords sheet at words =
+    cond (isWide sheet at)
+    (set (set words (poolIndex sheet at) (u32 sheet (bodyAt at + 7))) (poolIndex sheet at + 1) (u32 sheet (bodyAt at + 3)))
+    (set words (poolIndex sheet at) (u32 sheet (bodyAt at + 3)))
+
+abbrev pub withValue : List ℕ → ℕ → Pool → Pool
+withValue sheet at p = record { kinds = withKind sheet at (p .kinds); words = withWords sheet at (p .words) }
+
+-- the KI records from an offset on up to an end
+unfoldable pub poolFrom : ℕ → List ℕ → ℕ → ℕ → Pool → Pool
+poolFrom zero sheet at end p = p
+poolFrom (suc n) sheet at end p = cond (end ≤ⁿ at) p (poolFrom n sheet (recordEnd sheet at) end (withValue sheet at p))
+
+-- they stand between the code and the AR record
+abbrev pub poolStart : Reading → ℕ
+poolStart p = p .code + p .«code_length»
+
+abbrev pub poolEnd : Reading → ℕ
+poolEnd p = p .arguments - 4
+
+-- kinds and words over their whole length, 0 where no record says otherwise
+abbrev pub clear : List ℕ → List ℕ → Pool
+clear kinds words = record { kinds = replicate (length kinds) 0; words = replicate (length words) 0 }
+
+abbrev pub loadedPool : List ℕ → Reading → List ℕ → List ℕ → Pool
+loadedPool sheet p kinds words = poolFrom (poolEnd p - poolStart p) sheet (poolStart p) (poolEnd p) (clear kinds words)
+
+-- n argument words from an offset on
+unfoldable pub argumentsFrom : List ℕ → ℕ → ℕ → List ℕ
+argumentsFrom sheet at zero = []
+argumentsFrom sheet at (suc n) = u32 sheet at ∷ argumentsFrom sheet (at + 4) n
+
+-- stage 0's words of the frame: the arguments, then zeros
+abbrev pub loadedFrame : List ℕ → Reading → List ℕ
+loadedFrame sheet p = argumentsFrom sheet (p .arguments) (p .«argument_count») ++ replicate (p .«max_locals» + p .«max_stack» - p .«argument_count») 0
+
+-- slots beyond the frame are untouched
+abbrev pub loadedSlots : List ℕ → Reading → List ℕ → List ℕ
+loadedSlots sheet p slots = loadedFrame sheet p ++ drop (p .«max_locals» + p .«max_stack») slots
+
+abbrev pub loadedState : ℕ → ℕ → State
+loadedState stack locals = record { «max_stack» = stack; «max_locals» = locals; pc = 0; depth = 0; count = 0 }
+
+-- ---- the load
+
+pub record Loaded : Type 0 where
+  pub load : Load
+  pub slots : List ℕ
+  pub kinds : List ℕ
+  pub words : List ℕ
+
+abbrev pub loadBy : List ℕ → List ℕ → List ℕ → List ℕ → Asked Reading → Loaded
+loadBy sheet slots kinds words (passed p) =
+    record {
+      load = Load.Accepted (loadedState (p .«max_stack») (p .«max_locals»)) (p .code) (p .«code_length»);
+      slots = loadedSlots sheet p slots;
+      kinds = loadedPool sheet p kinds words .kinds;
+      words = loadedPool sheet p kinds words .words;
+    }
+loadBy sheet slots kinds words (refused n) = record { load = Load.Refused n; slots = slots; kinds = kinds; words = words }
+
+-- nothing is written unless the whole sheet and all lengths are accepted
+unfoldable pub loadOf : List ℕ → List ℕ → List ℕ → List ℕ → Loaded
+loadOf sheet slots kinds words = loadBy sheet slots kinds words (do
+  p ← sheetAsked sheet
+  memoryAsked p slots kinds words
+  passed p)
+
+-- what a load hands back besides: a refused one a state of zeros and the empty part at the sheet's start
+abbrev pub stateOf : Load → State
+stateOf (Load.Accepted s at n) = s
+stateOf (Load.Refused k) = loadedState 0 0
+
+-- the code is the very part of the sheet that holds it; where a load of another sheet points past this one, the empty part
+abbrev pub codeOf : List ℕ → Load → List ℕ
+codeOf sheet (Load.Accepted s at n) = cond (at + n ≤ⁿ length sheet) (take n (drop at sheet)) []
+codeOf sheet (Load.Refused k) = []

@@ -1,0 +1,76 @@
+-- What the answers to a mark, to a record and to the memory say of the questions. Assumes nothing.
+use Prim.Native.Nat.{ℕ, _+_, _≤_}
+use mathlib.Core.Path.{_≡_, refl}
+use mathlib.Core.Bool.{Bool, true, false, _||_, cond}
+use mathlib.Core.List.{List}
+use native.Mathlib.Omega.{arith}
+use lib.Dec.{eqb, leb, ltb}
+use lib.ListN.{length}
+use borrow.Author.Tests.{leb-true}
+use Rattle.rules.specs.declared.Mark.{Mark}
+use Rattle.rules.specs.declared.Mark.the-variants.{LM, CD, KI, AR}
+use Rattle.rules.specs.declared.Reading.{Reading}
+use Rattle.rules.specs.Asked.{Asked, passed, refused, _else_, _>>_}
+use Rattle.rules.specs.Sheet.{knownMark, memoryAsked}
+use Rattle.rules.proofs.Asked.{first-passed}
+use Rattle.sheet.specs.declared.marks.Known.the-variants as Known
+use Rattle.sheet.specs.declared.records.Record.the-variants as Record
+use Rattle.sheet.specs.Records.{markAnswer, recordAnswer, isPassed}
+
+pub mark-known : (x : Asked Mark) (m : Mark) → Known.Mark m ≡ markAnswer x → x ≡ passed m
+mark-known (passed k) m e = cc
+mark-known (refused n) m e = let z : _≡_ {A = ℕ} 0 1 = cc in absurd (omega arith)
+
+pub mark-unknown : (n : ℕ) → Known.Nothing ≡ markAnswer (knownMark n) → knownMark n ≡ refused 22
+mark-unknown n e = go (eqb n 0x4C4D) (eqb n 0x4344) (eqb n 0x4B49) (eqb n 0x4152) e
+  where
+    of : Bool → Bool → Bool → Bool → Asked Mark
+    of a b c d = cond a (passed LM) (cond b (passed CD) (cond c (passed KI) (cond d (passed AR) (refused 22))))
+
+    go : (a b c d : Bool) → Known.Nothing ≡ markAnswer (of a b c d) → of a b c d ≡ refused 22
+    go true b c d e = let z : _≡_ {A = ℕ} 0 1 = cc in absurd (omega arith)
+    go false true c d e = let z : _≡_ {A = ℕ} 0 1 = cc in absurd (omega arith)
+    go false false true d e = let z : _≡_ {A = ℕ} 0 1 = cc in absurd (omega arith)
+    go false false false true e = let z : _≡_ {A = ℕ} 0 1 = cc in absurd (omega arith)
+    go false false false false e = refl
+
+pub record-read : (x : Asked Reading) (p : Reading) → Record.Read p ≡ recordAnswer x → x ≡ passed p
+record-read (passed q) p e = cc
+record-read (refused n) p e = let z : _≡_ {A = ℕ} 0 1 = cc in absurd (omega arith)
+
+pub record-refused : (x : Asked Reading) (k : ℕ) → Record.Refused k ≡ recordAnswer x → x ≡ refused k
+record-refused (passed q) k e = let z : _≡_ {A = ℕ} 0 1 = cc in absurd (omega arith)
+record-refused (refused n) k e = cc
+
+pub last-asked : (t : Bool) (n : ℕ) → t ≡ isPassed (t else n)
+unfolding _else_
+last-asked true n = refl
+last-asked false n = refl
+
+-- ---- the memory
+
+module _ (p : Reading) (slots kinds words : List ℕ) where
+  pub not-enough : isPassed (memoryAsked p slots kinds words) ≡ false → memoryAsked p slots kinds words ≡ refused 26
+  unfolding memoryAsked _else_ _>>_
+  not-enough e = go (leb (p .«max_locals» + p .«max_stack») (length slots)) (eqb (p .used) 0 || ltb (p .used) (length kinds)) (eqb (length kinds) (length words)) (leb (length kinds) 65536) e
+    where
+      of : Bool → Bool → Bool → Bool → Asked (Unit {0})
+      of a b c d = (a else 26) >> (b else 26) >> (c else 26) >> (d else 26)
+
+      go : (a b c d : Bool) → isPassed (of a b c d) ≡ false → of a b c d ≡ refused 26
+      go false b c d e = refl
+      go true false c d e = refl
+      go true true false d e = refl
+      go true true true false e = refl
+      go true true true true e = let z : _≡_ {A = ℕ} 0 1 = cc in absurd (omega arith)
+
+  pub enough : isPassed (memoryAsked p slots kinds words) ≡ true → memoryAsked p slots kinds words ≡ passed tt
+  enough e = go (memoryAsked p slots kinds words) e
+    where
+      go : (x : Asked (Unit {0})) → isPassed x ≡ true → x ≡ passed tt
+      go (passed t) e = refl
+      go (refused n) e = let z : _≡_ {A = ℕ} 0 1 = cc in absurd (omega arith)
+
+  pub slots-reach : memoryAsked p slots kinds words ≡ passed tt → p .«max_locals» + p .«max_stack» ≤ length slots
+  unfolding memoryAsked
+  slots-reach e = leb-true _ _ (first-passed _ 26 _ e .0)

@@ -1,0 +1,3 @@
+-- Laws for this crate's functions
+mod Answers
+mod Fronts

@@ -1,0 +1,50 @@
+-- `may_follow` meets its contract. Assumes nothing.
+use borrow.Author.Tests.{eq-eqb, ne-eqb}
+use borrow.Author.Needs.{needs}
+use Rattle.sheet.proofs.marks.may_follow.Statement.{statement}
+use Rattle.sheet.proofs.marks.may_follow.Tie as tie
+
+enum-told : tie.Need-enum-told
+enum-told c = search needs
+
+enum-told-2 : tie.Need-enum-told-2
+enum-told-2 c = search needs
+
+enum-told-3 : tie.Need-enum-told-3
+enum-told-3 c = search needs
+
+enum-told-4 : tie.Need-enum-told-4
+enum-told-4 c = search needs
+
+returns : tie.Need-returns
+returns c = simp (c .enum-told .given .1)
+
+returns-2 : tie.Need-returns-2
+returns-2 c = simp (c .enum-told2 .given .1)
+
+returns-3 : tie.Need-returns-3
+returns-3 c = simp (c .before .enum-told3 .given .1, eq-eqb _ _ (c .if1 .taken))
+
+returns-4 : tie.Need-returns-4
+returns-4 c = simp (c .before .enum-told3 .given .1, ne-eqb _ _ (c .if1 .left))
+
+returns-5 : tie.Need-returns-5
+returns-5 c = simp (c .before .enum-told4 .given .1, eq-eqb _ _ (c .if2 .taken))
+
+returns-6 : tie.Need-returns-6
+returns-6 c = simp (c .before .enum-told4 .given .1, ne-eqb _ _ (c .if2 .left))
+
+pub may-follow-spec : {M : Type 1} → statement M
+may-follow-spec =
+    tie.close
+    (tie.spec
+    enum-told
+    enum-told-2
+    enum-told-3
+    enum-told-4
+    returns
+    returns-2
+    returns-3
+    returns-4
+    returns-5
+    returns-6)

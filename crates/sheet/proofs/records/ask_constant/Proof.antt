@@ -1,0 +1,87 @@
+-- `ask_constant` meets its contract. Assumes nothing.
+use mathlib.Core.Path.{sym, ap, _∙_}
+use denote.Ref.{now}
+use borrow.Author.Tests.{not-true, not-false}
+use Rattle.rules.proofs.Sheet.{tag-unfit, index-used, index-past, constant-read}
+use Rattle.sheet.specs.Records.{recordAnswer}
+use borrow.Author.Needs.{needs}
+use Rattle.sheet.proofs.records.ask_constant.Statement.{statement}
+use Rattle.sheet.proofs.records.ask_constant.Tie as tie
+
+add-body : tie.Need-add-body
+add-body c = search needs
+
+add-read-code-u8 : tie.Need-add-read-code-u8
+add-read-code-u8 c = search needs
+
+read-code-u8-requires : tie.Need-read-code-u8-requires
+read-code-u8-requires c κs = search needs
+
+body-length-requires : tie.Need-body-length-requires
+body-length-requires c κs = search needs
+
+tag-suits-requires : tie.Need-tag-suits-requires
+tag-suits-requires c κs = search needs
+
+returns : tie.Need-returns
+returns c =
+    let a = c .before .before .before .before .before .args in
+    let sheet = now (a .sheet) in
+    let suits = rw (c .before .before .before .read-code-u8 .ensures, c .before .before .body-length .ensures) at (sym (c .before .tag-suits .ensures) ∙ not-true _ (c .if1 .taken)) in
+    sym (ap recordAnswer (tag-unfit sheet (a .at) (a .p) suits))
+
+read-code-u16-requires : tie.Need-read-code-u16-requires
+read-code-u16-requires c κs = search needs
+
+cast-index : tie.Need-cast-index
+cast-index c = search needs
+
+returns-2 : tie.Need-returns-2
+returns-2 c =
+    let a = c .before .before .before .before .before .before .before .before .args in
+    let sheet = now (a .sheet) in
+    let suits = rw (c .before .before .before .before .before .before .read-code-u8 .ensures, c .before .before .before .before .before .body-length .ensures) at (sym (c .before .before .before .before .tag-suits .ensures) ∙ not-false _ (c .before .before .before .if1 .left)) in
+    let used = rw (c .before .before .read-code-u16 .ensures) at (c .if2 .taken) in
+    sym (ap recordAnswer (index-used sheet (a .at) (a .p) suits used))
+
+last-index-requires : tie.Need-last-index-requires
+last-index-requires c κs = search needs
+
+returns-3 : tie.Need-returns-3
+returns-3 c =
+    let a = c .before .before .before .before .before .before .before .before .before .before .args in
+    let sheet = now (a .sheet) in
+    let suits = rw (c .before .before .before .before .before .before .before .before .read-code-u8 .ensures, c .before .before .before .before .before .before .before .body-length .ensures) at (sym (c .before .before .before .before .before .before .tag-suits .ensures) ∙ not-false _ (c .before .before .before .before .before .if1 .left)) in
+    let above = rw (c .before .before .before .before .read-code-u16 .ensures) at (c .before .before .if2 .left) in
+    let past = rw (c .before .last-index .ensures) at (c .if3 .taken) in
+    sym (ap recordAnswer (index-past sheet (a .at) (a .p) suits above past))
+
+with-constant-requires : tie.Need-with-constant-requires
+with-constant-requires c κs = search needs
+
+returns-4 : tie.Need-returns-4
+returns-4 c =
+    let a = c .before .before .before .before .before .before .before .before .before .before .before .args in
+    let sheet = now (a .sheet) in
+    let suits = rw (c .before .before .before .before .before .before .before .before .before .read-code-u8 .ensures, c .before .before .before .before .before .before .before .before .body-length .ensures) at (sym (c .before .before .before .before .before .before .before .tag-suits .ensures) ∙ not-false _ (c .before .before .before .before .before .before .if1 .left)) in
+    let above = rw (c .before .before .before .before .before .read-code-u16 .ensures) at (c .before .before .before .if2 .left) in
+    let there = rw (c .before .before .last-index .ensures) at (c .before .if3 .left) in
+    rw (c .with-constant .ensures, c .before .before .last-index .ensures) (sym (ap recordAnswer (constant-read sheet (a .at) (a .p) suits above there)))
+
+pub ask-constant-spec : {M : Type 1} → statement M
+ask-constant-spec =
+    tie.close
+    (tie.spec
+    add-body
+    add-read-code-u8
+    read-code-u8-requires
+    body-length-requires
+    tag-suits-requires
+    returns
+    read-code-u16-requires
+    cast-index
+    returns-2
+    last-index-requires
+    returns-3
+    with-constant-requires
+    returns-4)

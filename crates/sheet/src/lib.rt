@@ -1,0 +1,9 @@
+// The sheet: a file that holds one method with its constants and arguments, checked whole and then filled into lent memory.
+mod checking;
+mod filling;
+mod loading;
+mod marks;
+mod records;
+
+pub use loading::code_of;
+pub use loading::load;
