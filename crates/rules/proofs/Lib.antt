@@ -8,6 +8,9 @@ pub mod Legal
 pub mod Run
 pub mod Sheet
 pub mod Loaded
+pub mod Pasted
+pub mod OnePress
+pub mod Walk
 -- Examples, which only the checker reads
 mod Given
 mod Examples
@@ -16,3 +19,4 @@ mod Facts
 mod Refusals
 mod Walks
 mod Sheets
+mod Presses

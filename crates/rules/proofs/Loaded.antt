@@ -1,11 +1,11 @@
 -- What an accepted load leaves: questions 1 to 3 pass, the frame is the arguments and then zeros, and the slots beyond it are as they were. Assumes nothing.
-use Prim.Native.Nat.{ℕ, zero, suc, _+_, _-_, _≤_, _<_}
+use Prim.Native.Nat.{ℕ, zero, suc, _+_, _-_, _<_}
 use mathlib.Core.Path.{_≡_, refl, sym, ap, _∙_}
-use mathlib.Core.Bool.{Bool, true, false, _||_, cond}
-use mathlib.Core.List.{List, [], _∷_, _++_}
+use mathlib.Core.Bool.{Bool, true, false, cond}
+use mathlib.Core.List.{List}
 use native.Mathlib.Omega.{arith}
 use lib.Dec.{leb}
-use lib.ListN.{length, take, drop, set, replicate, length-set, length-append, length-drop, length-replicate}
+use lib.ListN.{length, take, drop, set, length-set, length-append, length-drop, length-replicate}
 use lib.Seq.{length-take-le, take-at, drop-at}
 use borrow.Author.Tests.{leb-true, le-leb, eqb-true}
 use Rattle.rules.specs.declared.Reading.{Reading}
@@ -13,7 +13,7 @@ use Rattle.rules.specs.declared.State.{State}
 use Rattle.rules.specs.declared.Load.the-variants as Load
 use Rattle.rules.specs.Asked.{passed}
 use Rattle.rules.specs.Fetch.{u8, u32}
-use Rattle.rules.specs.Questions.{Lent, lent, frameAsked}
+use Rattle.rules.specs.Questions.{lent, frameAsked}
 use Rattle.rules.specs.Step.{frame}
 use Rattle.rules.specs.Sheet.{recordEnd, bodyAt, poolIndex, isWide, sheetAsked, memoryAsked, Pool, withWords, withValue, poolFrom, loadedPool, argumentsFrom, loadedFrame, loadedSlots, loadedState, codeOf}
 use Rattle.rules.proofs.Asked.{first-passed, last-passed}
@@ -90,9 +90,9 @@ module _ (sheet slots kinds words : List ℕ) (bytes : (i : ℕ) → u8 sheet i 
   pub beyond-is : drop (p .«max_locals» + p .«max_stack») (loadedSlots sheet p slots) ≡ drop (p .«max_locals» + p .«max_stack») slots
   beyond-is = drop-at (loadedFrame sheet p) (drop (p .«max_locals» + p .«max_stack») slots) (p .«max_locals» + p .«max_stack») frame-length
 
-  pub loaded-passes : frameAsked (lent code (loadedPool sheet p kinds words .kinds) (loadedPool sheet p kinds words .words)) state (loadedSlots sheet p slots) ≡ passed tt
+  pub loaded-framed : Framed (lent code (loadedPool sheet p kinds words .kinds) (loadedPool sheet p kinds words .words)) state (loadedSlots sheet p slots)
   unfolding memoryAsked
-  loaded-passes =
+  loaded-framed =
       let e = last in
       let a = first-passed _ 26 _ fits in
       let b = first-passed _ 26 _ (a .1) in
@@ -102,7 +102,7 @@ module _ (sheet slots kinds words : List ℕ) (bytes : (i : ℕ) → u8 sheet i 
       let room = leb-true (p .«max_locals» + p .«max_stack») (length slots) (a .0) in
       let k : length (loadedPool sheet p kinds words .kinds) ≡ length kinds = pool-kinds _ sheet _ _ _ ∙ length-replicate (length kinds) 0 in
       let w : length (loadedPool sheet p kinds words .words) ≡ length words = pool-words _ sheet _ _ _ ∙ length-replicate (length words) 0 in
-      frame-passed (lent code (loadedPool sheet p kinds words .kinds) (loadedPool sheet p kinds words .words)) state (loadedSlots sheet p slots) (record {
+      record {
         paired = k ∙ paired ∙ sym w;
         pool = omega arith;
         room = omega (arith, frame-length, length-append (loadedFrame sheet p) (drop (p .«max_locals» + p .«max_stack») slots));
@@ -110,4 +110,7 @@ module _ (sheet slots kinds words : List ℕ) (bytes : (i : ℕ) → u8 sheet i 
         short-code = omega (arith, code-length, within .short-code bytes);
         in-code = omega (arith, code-length, within .some-code (omega arith));
         deep = omega arith;
-      })
+      }
+
+  pub loaded-passes : frameAsked (lent code (loadedPool sheet p kinds words .kinds) (loadedPool sheet p kinds words .words)) state (loadedSlots sheet p slots) ≡ passed tt
+  loaded-passes = frame-passed (lent code (loadedPool sheet p kinds words .kinds) (loadedPool sheet p kinds words .words)) state (loadedSlots sheet p slots) loaded-framed

@@ -1,6 +1,6 @@
 -- Sheets worked out by hand from document 01: the printed one, constants and arguments, and each refusal. Assumes nothing.
 use Prim.Native.Nat.{ℕ}
-use mathlib.Core.Path.{_≡_, refl}
+use mathlib.Core.Path.{refl}
 use mathlib.Core.List.{List, [], _∷_, _++_}
 use Rattle.rules.specs.declared.Load.{Load}
 use Rattle.rules.specs.declared.Load.the-variants.{Accepted, Refused}

@@ -6,4 +6,6 @@ pub mod Questions
 pub mod Step
 pub mod Run
 pub mod Sheet
+pub mod History
+pub mod Walk
 pub mod Answers

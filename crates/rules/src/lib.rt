@@ -33,6 +33,14 @@ pub enum Decision {
     Refused(u32),
 }
 
+// What a press of forward or back comes to: granted, an outcome or a refusal.
+pub enum Pressed {
+    Granted,
+    Return(Value),
+    Throw,
+    Refused(u32),
+}
+
 // What ends a run: its budget, an outcome or a refusal.
 pub enum End {
     Stopped,
