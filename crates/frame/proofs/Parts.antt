@@ -8,7 +8,8 @@ use native.Mathlib.Nat.{add-assoc, add-zero}
 use borrow.Rule.Slice.PartMut.{putMid}
 use lib.Dec.{lit≤}
 use lib.ListN.{length, take, drop, getD, set, take-append-drop, length-drop}
-use lib.Seq.{paste, paste-zero, paste-suc, take-append-le, drop-append-le, length-take-le, take-append-add, drop-append-add, drop-cons}
+use lib.Seq.{paste, paste-zero, paste-suc, length-take-le, take-append-add, drop-append-add, drop-cons}
+use Rattle.rules.proofs.Pasted.{paste-left}
 
 -- ---- one by one
 
@@ -35,12 +36,6 @@ two-copied l at i h =
     rw (add-one, drop-cons l i 0 h₀, drop-cons l (suc i) 0 h₁)
 
 -- ---- into a part
-
--- the first of two
-paste-left : (a b : List ℕ) (at n : ℕ) (ws : List ℕ) → at + n ≤ length a → paste (a ++ b) at ws n ≡ paste a at ws n ++ b
-paste-left a b at n ws h =
-    let h₁ : at ≤ length a = omega arith in
-    rw (take-append-le at a b h₁, drop-append-le (at + n) a b h) (sym (append-assoc (take at a ++ take n ws) (drop (at + n) a) b))
 
 -- the second of two
 paste-right : (x y : List ℕ) (j n : ℕ) (ws : List ℕ) → paste (x ++ y) (length x + j) ws n ≡ x ++ paste y j ws n

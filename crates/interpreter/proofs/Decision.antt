@@ -123,7 +123,6 @@ module _ (l : Lent) (s : State) (i : Instruction) (f : Sound (l .code) (s .pc) i
       pub from-words : (a b c d : ℕ) → wordsAt (i .rule .reads) l s (frame s slots) i ≡ take (works (i .rule)) (a ∷ b ∷ c ∷ d ∷ [])
           → finishOf (l .code) (s .pc) (locatedAt s i first depth) a (effectAt (sharedIn (entryAt i)) (low 32 (i .operand .constant)) a b c d) ≡ decideOf l s slots
       from-words a b c d w =
-          let four = a ∷ b ∷ c ∷ d ∷ [] in
           let same : result l s slots i ≡ doesFour (f .row) (i .operand) a b c d =
           ap (i .rule .does (i .operand)) w ∙ ap (λ (r : Rule). r .does (i .operand) (take (works r) (a ∷ b ∷ c ∷ d ∷ []))) (f .ruled) in
           let own : effectAt (sharedIn (entryAt i)) (low 32 (i .operand .constant)) a b c d ≡ effectOf (doesFour (f .row) (i .operand) a b c d) =

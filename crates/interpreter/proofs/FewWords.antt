@@ -4,7 +4,8 @@ use mathlib.Core.Path.{_≡_, refl, _∙_}
 use mathlib.Core.List.{List, [], _∷_}
 use native.Mathlib.Omega.{arith}
 use lib.ListN.{length, take, drop, getD}
-use lib.Seq.{drop-cons, take-take}
+use lib.Seq.{drop-cons}
+use Rattle.rules.proofs.Pasted.{part-front}
 
 pub few-words : (ws : List ℕ) (at n : ℕ) → n ≤ 4 → (0 < n → at + n ≤ length ws)
     → take n (drop at ws) ≡ take n (getD ws at 0 ∷ getD ws (at + 1) 0 ∷ getD ws (at + 2) 0 ∷ getD ws (at + 3) 0 ∷ [])
@@ -46,16 +47,10 @@ few-words ws at n few there = go n few there
         rw (drop-cons ws at 0 h0, drop-cons ws (suc at) 0 h1, drop-cons ws (suc (suc at)) 0 h2, drop-cons ws (suc (suc (suc at))) 0 h3, e1, e2, e3)
     go (suc (suc (suc (suc (suc n))))) f t = absurd (omega arith)
 
--- the words of a list's first m lie in the list itself
-of-first : (at n m : ℕ) (ws : List ℕ) → at + n ≤ m → take n (drop at (take m ws)) ≡ take n (drop at ws)
-of-first zero n m ws h = take-take n m ws (omega arith)
-of-first (suc at) n zero ws h = absurd (omega arith)
-of-first (suc at) n (suc m) [] h = refl
-of-first (suc at) n (suc m) (w ∷ ws) h = of-first at n m ws (omega arith)
-
+-- of a list's first m words, if they reach
 pub few-of-first : (ws : List ℕ) (m at n : ℕ) → n ≤ 4 → m ≤ length ws → (0 < n → at + n ≤ m)
     → take n (drop at (take m ws)) ≡ take n (getD ws at 0 ∷ getD ws (at + 1) 0 ∷ getD ws (at + 2) 0 ∷ getD ws (at + 3) 0 ∷ [])
 few-of-first ws m at zero few long there = refl
 few-of-first ws m at (suc n) few long there =
     let h = there (omega arith) in
-    of-first at (suc n) m ws h ∙ few-words ws at (suc n) few (λ p. omega arith)
+    part-front ws at (suc n) m h long ∙ few-words ws at (suc n) few (λ p. omega arith)

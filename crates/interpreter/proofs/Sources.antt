@@ -99,7 +99,6 @@ module _ (l : Lent) (s : State) (slots : List ℕ) (passes : frameAsked l s slot
         go true e =
             let f = framed l s slots passes in
             let c = constant-within (l .kinds) (i .operand .index) j k alike e in
-            let ws = take (places j) (drop (i .operand .index) (l .words)) in
             let long : length (take (places j) (drop (i .operand .index) (l .words))) ≡ places j = length-take-le (places j) (drop (i .operand .index) (l .words)) (omega (arith, length-drop (i .operand .index) (l .words))) in
             from-words l s i sound first depth st slots passes at (asks true e) _ _ _ _
             (rw (reads, its-places) (one-or-two (take (places j) (drop (i .operand .index) (l .words))) (places j) long short))

@@ -1,5 +1,5 @@
 -- The step in the stages of the code, on an instruction that is decoded and placed: for the contracts of private functions, tied to the rules by
--- proofs/Decision. Assumes nothing.
+-- proofs/Decision and proofs/Sources. Assumes nothing.
 use Prim.Native.Nat.{ℕ, _+_, _/_}
 use mathlib.Core.Bool.{Bool, true, _||_, cond}
 use mathlib.Core.List.{List}
@@ -51,13 +51,15 @@ readOf kinds words slots op index base =
 
 -- ---- where it goes, and its words
 
--- an instruction of an entry, with its operands, the offset after it, its first place on the stack and the new depth
+-- the opcode that instructions of the same effect share
 abbrev pub sharedIn : ℕ → ℕ
 sharedIn entry = entry / 0x1000000
 
+-- the stores and IINC write their local
 abbrev pub storesTo : ℕ → Bool
 storesTo op = eqb op 54 || eqb op 55 || eqb op 132
 
+-- an instruction of an entry, with its operands, the offset after it, its first place on the stack and the new depth
 unfoldable pub locatedOf : ℕ → ℕ → ℕ → ℕ → ℕ → ℕ → Located
 locatedOf entry index constant next base depth =
     record {

@@ -50,7 +50,7 @@ pool-words (suc n) sheet at end p = go (pool-words n sheet (recordEnd sheet at) 
     go h true = refl
     go h false = h
 
-length-arguments : (sheet : List ℕ) (at n : ℕ) → length (argumentsFrom sheet at n) ≡ n
+pub length-arguments : (sheet : List ℕ) (at n : ℕ) → length (argumentsFrom sheet at n) ≡ n
 unfolding argumentsFrom
 length-arguments sheet at zero = refl
 length-arguments sheet at (suc n) = ap suc (length-arguments sheet (at + 4) n)

@@ -155,9 +155,6 @@ module _ (l : Lent) (s₀ : State) (t₀ : Stage) (slots₀ : List ℕ) (room : 
       undo-here : undoOf l s₀ (stage l s₀ t₀ net) ≡ undoRecord (s .pc) (s .depth) (u .first) (u .many) (frame s slots)
       undo-here = rw (c .at-stage, q)
 
-      entry : List ℕ
-      entry = undoRecord (s .pc) (s .depth) (u .first) (u .many) slots
-
       entry-length : length (undoRecord (s .pc) (s .depth) (u .first) (u .many) slots) ≡ 10
       entry-length = record-length (s .pc) (s .depth) (u .first) (u .many) slots (legal .few) in-slots
 

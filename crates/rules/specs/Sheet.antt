@@ -27,7 +27,7 @@ recordEnd sheet at = bodyAt at + bodyLength sheet at
 abbrev pub knownMark : ℕ → Asked Mark
 knownMark n = cond (n =ⁿ 0x4C4D) (passed LM) (cond (n =ⁿ 0x4344) (passed CD) (cond (n =ⁿ 0x4B49) (passed KI) (cond (n =ⁿ 0x4152) (passed AR) (refused 22))))
 
--- the order: LM, CD, any number of KI, AR. 0 stands before the first record
+-- the order: LM, CD, any number of KI, AR. The last record's mark is known by its number, 0 before the first record
 abbrev pub markNumber : Mark → ℕ
 markNumber LM = 1
 markNumber CD = 2
@@ -36,9 +36,9 @@ markNumber AR = 4
 
 abbrev pub follows : Mark → ℕ → Bool
 follows LM last = last =ⁿ 0
-follows CD last = last =ⁿ 1
-follows KI last = (last =ⁿ 2) || (last =ⁿ 3)
-follows AR last = (last =ⁿ 2) || (last =ⁿ 3)
+follows CD last = last =ⁿ markNumber LM
+follows KI last = (last =ⁿ markNumber CD) || (last =ⁿ markNumber KI)
+follows AR last = (last =ⁿ markNumber CD) || (last =ⁿ markNumber KI)
 
 abbrev pub rightLength : Mark → ℕ → Bool
 rightLength LM n = n =ⁿ 4
@@ -55,22 +55,22 @@ unread = record { last = 0; «max_stack» = 0; «max_locals» = 0; code = 0; «c
 -- LM: max_stack, max_locals
 abbrev pub withLimits : Reading → ℕ → ℕ → Reading
 withLimits p stack locals =
-    record { last = 1; «max_stack» = stack; «max_locals» = locals; code = p .code; «code_length» = p .«code_length»; used = p .used; arguments = p .arguments; «argument_count» = p .«argument_count» }
+    record { last = markNumber LM; «max_stack» = stack; «max_locals» = locals; code = p .code; «code_length» = p .«code_length»; used = p .used; arguments = p .arguments; «argument_count» = p .«argument_count» }
 
 -- CD: the code
 abbrev pub withCode : Reading → ℕ → ℕ → Reading
 withCode p at n =
-    record { last = 2; «max_stack» = p .«max_stack»; «max_locals» = p .«max_locals»; code = at; «code_length» = n; used = p .used; arguments = p .arguments; «argument_count» = p .«argument_count» }
+    record { last = markNumber CD; «max_stack» = p .«max_stack»; «max_locals» = p .«max_locals»; code = at; «code_length» = n; used = p .used; arguments = p .arguments; «argument_count» = p .«argument_count» }
 
 -- KI: a constant, up to its last pool index
 abbrev pub withConstant : Reading → ℕ → Reading
 withConstant p used =
-    record { last = 3; «max_stack» = p .«max_stack»; «max_locals» = p .«max_locals»; code = p .code; «code_length» = p .«code_length»; used = used; arguments = p .arguments; «argument_count» = p .«argument_count» }
+    record { last = markNumber KI; «max_stack» = p .«max_stack»; «max_locals» = p .«max_locals»; code = p .code; «code_length» = p .«code_length»; used = used; arguments = p .arguments; «argument_count» = p .«argument_count» }
 
 -- AR: the argument words
 abbrev pub withArguments : Reading → ℕ → ℕ → Reading
 withArguments p at n =
-    record { last = 4; «max_stack» = p .«max_stack»; «max_locals» = p .«max_locals»; code = p .code; «code_length» = p .«code_length»; used = p .used; arguments = at; «argument_count» = n }
+    record { last = markNumber AR; «max_stack» = p .«max_stack»; «max_locals» = p .«max_locals»; code = p .code; «code_length» = p .«code_length»; used = p .used; arguments = at; «argument_count» = n }
 
 -- KI: pool index, tag, value. A long or a double uses two indices
 abbrev pub poolIndex : List ℕ → ℕ → ℕ
@@ -115,7 +115,7 @@ recordAsked sheet at p = do
 -- at the end of the bytes: was AR seen? 23
 abbrev pub endAsked : Reading → Asked Reading
 endAsked p = do
-  p .last =ⁿ 4 else 23
+  p .last =ⁿ markNumber AR else 23
   passed p
 
 -- record by record from an offset on. A record has at least four bytes, so that as many turns as there are bytes left are more than enough

@@ -1,6 +1,6 @@
 -- A list written from its front on, word by word. Assumes nothing.
 use Prim.Native.Nat.{ℕ, zero, suc, _+_, _-_, _*_, _≤_, _<_}
-use mathlib.Core.Path.{_≡_, refl, sym, ap, subst, _∙_}
+use mathlib.Core.Path.{_≡_, sym, ap, subst, _∙_}
 use mathlib.Core.List.{List, [], _∷_, _++_, append-assoc}
 use native.Mathlib.Omega.{arith}
 use native.Mathlib.Numerals.{add-one}
@@ -33,11 +33,6 @@ drop-zeros zero (suc k) ys h = absurd (omega arith)
 drop-zeros (suc n) (suc k) ys h = let e : n - k ≡ suc n - suc k = omega arith in drop-zeros n k ys (omega arith) ∙ ap (λ (m : ℕ). zeros m ++ ys) e
 
 module _ (sheet : List ℕ) where
-  pub length-arguments : (at n : ℕ) → length (argumentsFrom sheet at n) ≡ n
-  unfolding argumentsFrom
-  length-arguments at zero = refl
-  length-arguments at (suc n) = ap suc (length-arguments (at + 4) n)
-
   pub one-more-argument : (at n : ℕ) → argumentsFrom sheet at n ++ (u32 sheet (at + 4 * n) ∷ []) ≡ argumentsFrom sheet at (n + 1)
   unfolding argumentsFrom
   one-more-argument at zero = let e : at + 0 ≡ at = omega arith in ap (λ (k : ℕ). u32 sheet k ∷ []) e

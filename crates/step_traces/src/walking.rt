@@ -8,6 +8,7 @@ use crate::results::print_state;
 use crate::results::print_words;
 use interpreter::run;
 use interpreter::step;
+use libc::STDOUT_FILENO;
 use printing::print;
 use printing::print_hex;
 use printing::print_number;
@@ -24,6 +25,7 @@ enum Top {
     Nothing,
 }
 
+// The word on top before a step.
 fn top_of(slots: &[u32], s: State) -> Top {
     let place = s.max_locals as usize + s.depth as usize;
     if s.depth == 0 {
@@ -43,7 +45,7 @@ fn opcode_at(code: &[u8], pc: u32) -> u8 {
 
 // Prints the line of an ordinary step: the steps before it, and where it began.
 fn print_step(steps: u64, s: State, opcode: u8, top: Top) {
-    io::print_decimal(1, steps);
+    io::print_decimal(STDOUT_FILENO, steps);
     print_number(s.pc as u64);
     print_number(opcode as u64);
     print_number(s.depth as u64);

@@ -43,7 +43,6 @@ same-length c = c .before .loop .inv .2
 returns : tie.Need-returns Inv-loop μ-loop
 returns c =
     let t = c .before .loop in
-    let all = now (c .before .before .args .target) in
     let past : t .i ≡ length (now (c .before .before .args .target)) = omega arith in
     rw (t .inv .1, past, drop-of-length-le (now (c .before .before .args .target)) {i = length (now (c .before .before .args .target))} (omega arith)) (append-nil (zeros (length (now (c .before .before .args .target)))))
 

@@ -25,7 +25,6 @@ same-length-2 c = search needs
 
 returns : tie.Need-returns
 returns c =
-    let words = now (c .before .before .before .before .before .before .before .before .before .before .before .before .before .before .before .before .before .before .args .words) in
     rw (c .before .before .before .before .before .before .before .before .before .before .before .before .before .clear-bytes .ensures, c .before .before .before .before .before .before .before .before .before .clear-words .ensures, drop-of-length-le (now (c .before .before .before .before .before .before .before .before .before .before .before .before .before .before .before .before .before .before .args .words)) {i = length (now (c .before .before .before .before .before .before .before .before .before .before .before .before .before .before .before .before .before .before .args .words))} (omega arith), append-nil (zeros (length (now (c .before .before .before .before .before .before .before .before .before .before .before .before .before .before .before .before .before .before .args .words))))) at (c .before .before .before .before .enter-constants .ensures)
 
 pub fill-pool-spec : {M : Type 1} → statement M

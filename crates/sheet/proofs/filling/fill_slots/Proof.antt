@@ -32,7 +32,6 @@ same-length c = search needs
 returns : tie.Need-returns
 returns c =
     let a = c .before .before .before .before .before .before .before .before .before .before .before .before .args in
-    let p = a .p in
     rw (c .before .before .write-arguments .ensures, c .before .before .before .before .before .before .clear-words .ensures, drop-zeros (a .p .«max_locals» + a .p .«max_stack») (a .p .«argument_count») (drop (a .p .«max_locals» + a .p .«max_stack») (now (a .slots))) (omega arith))
     (sym (append-assoc (argumentsFrom (now (a .sheet)) (a .p .arguments) (a .p .«argument_count»)) (zeros (a .p .«max_locals» + a .p .«max_stack» - a .p .«argument_count»)) (drop (a .p .«max_locals» + a .p .«max_stack») (now (a .slots)))))
 

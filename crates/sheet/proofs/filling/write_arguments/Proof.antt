@@ -6,7 +6,8 @@ use native.Mathlib.Omega.{arith}
 use lib.ListN.{length, drop, length-set}
 use denote.Ref.{now}
 use Rattle.rules.specs.Sheet.{argumentsFrom}
-use Rattle.sheet.proofs.Fronts.{front-set, length-arguments, one-more-argument}
+use Rattle.rules.proofs.Loaded.{length-arguments}
+use Rattle.sheet.proofs.Fronts.{front-set, one-more-argument}
 use borrow.Author.Needs.{needs}
 use Rattle.sheet.proofs.filling.write_arguments.Statement.{statement}
 use Rattle.sheet.proofs.filling.write_arguments.Tie as tie
@@ -46,7 +47,6 @@ loop-again : tie.Need-loop-again Inv-loop μ-loop
 loop-again c =
     let t = c .before .before .loop in
     let a = c .before .before .before .before .before .args in
-    let sheet = now (a .sheet) in
     let h : t .i < length (now (a .slots)) = omega arith in (
       omega arith,
       rw (t .inv .1, c .read-code-u32 .ensures)
