@@ -1,4 +1,5 @@
 -- Laws that other crates cite
+pub mod FrameAnswers
 pub mod Needs
 -- Laws for this crate's functions
 mod Parts

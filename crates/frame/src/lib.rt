@@ -18,3 +18,4 @@ pub use stack::pop;
 pub use stack::pop_long;
 pub use stack::push;
 pub use stack::push_long;
+pub use words::write_words;

@@ -17,7 +17,7 @@ pub(crate) fn write_two(target: &mut [u32], at: usize, low: u32, high: u32)
 }
 
 // The first n words, written from an index on.
-pub(crate) fn write_words(target: &mut [u32], at: usize, words: &[u32], n: usize)
+pub fn write_words(target: &mut [u32], at: usize, words: &[u32], n: usize)
     requires { ⌜ (at + n ≤ length (now target)) × (n ≤ length (now words)) ⌝ }
     ensures { λ _. ⌜ now (target .exit) ≡ paste (now (target .entry)) at (now (words .entry)) n ⌝ }
 {

@@ -28,20 +28,13 @@ use Rattle.frame.specs.declared.places.Placed.{Placed}
 use Rattle.frame.specs.declared.places.Placed.the-variants as Placed
 use Rattle.frame.specs.FrameAnswer.{frameAnswer}
 use Rattle.frame.specs.Place.{placeOf}
+use Rattle.frame.proofs.FrameAnswers.{frame-refused}
 use Rattle.frame.proofs.Needs.{Says, place-says}
 use Rattle.interpreter.specs.Stages.{sharedIn, switchThere, locatedOf, locatedDecision}
 use Rattle.interpreter.proofs.Decision.{entryAt, listed, switch-there}
 use Rattle.interpreter.proofs.Sources.{located-decides}
 
 -- ---- questions 1 to 3
-
-pub frame-passed : (x : Asked (Unit {0})) → FrameAsked.Passed ≡ frameAnswer x → x ≡ passed tt
-frame-passed (passed t) e = refl
-frame-passed (refused n) e = let z : _≡_ {A = ℕ} 0 1 = cc in absurd (omega arith)
-
-pub frame-refused : (x : Asked (Unit {0})) (n : ℕ) → FrameAsked.Refused n ≡ frameAnswer x → x ≡ refused n
-frame-refused (passed t) n e = let z : _≡_ {A = ℕ} 0 1 = cc in absurd (omega arith)
-frame-refused (refused k) n e = cc
 
 pub by-frame : (l : Lent) (s : State) (slots : List ℕ) (n : ℕ) → FrameAsked.Refused n ≡ frameAnswer (frameAsked l s slots) → decideOf l s slots ≡ Decision.Refused n
 by-frame l s slots n e = refused-by-frame l s slots n (frame-refused (frameAsked l s slots) n e)

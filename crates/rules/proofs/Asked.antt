@@ -3,7 +3,7 @@ use Prim.Native.Nat.{ℕ}
 use mathlib.Core.Path.{_≡_, refl}
 use mathlib.Core.Bool.{Bool, true, false, _&&_, cond}
 use native.Mathlib.Omega.{arith}
-use Rattle.rules.specs.Asked.{Asked, passed, refused, _else_, _>>=_, _>>_}
+use Rattle.rules.specs.Asked.{Asked, passed, refused, _else_, _>>=_, _>>_, isPassed}
 
 -- a row that is passed has a yes at each question
 pub first-passed : (t : Bool) (n : ℕ) (x : Asked (Unit {0})) → ((t else n) >> x) ≡ passed tt → (t ≡ true) × (x ≡ passed tt)
@@ -11,10 +11,24 @@ unfolding _else_ _>>_
 first-passed true n x e = (refl, e)
 first-passed false n x e = let z : _≡_ {A = ℕ} 0 1 = cc in absurd (omega arith)
 
+pub both-passed : (y x : Asked (Unit {0})) → (y >> x) ≡ passed tt → (y ≡ passed tt) × (x ≡ passed tt)
+unfolding _>>_
+both-passed (passed t) x e = (refl, e)
+both-passed (refused n) x e = let z : _≡_ {A = ℕ} 0 1 = cc in absurd (omega arith)
+
 pub last-passed : (t : Bool) (n : ℕ) → (t else n) ≡ passed tt → t ≡ true
 unfolding _else_
 last-passed true n e = refl
 last-passed false n e = let z : _≡_ {A = ℕ} 0 1 = cc in absurd (omega arith)
+
+pub last-asked : (t : Bool) (n : ℕ) → t ≡ isPassed (t else n)
+unfolding _else_
+last-asked true n = refl
+last-asked false n = refl
+
+pub is-passed : (x : Asked (Unit {0})) → isPassed x ≡ true → x ≡ passed tt
+is-passed (passed t) e = refl
+is-passed (refused n) e = let z : _≡_ {A = ℕ} 0 1 = cc in absurd (omega arith)
 
 pub and-true : (a b : Bool) → (a && b) ≡ true → (a ≡ true) × (b ≡ true)
 and-true true b e = (refl, e)

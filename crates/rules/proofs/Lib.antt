@@ -5,12 +5,15 @@ pub mod Questions
 pub mod Step
 pub mod Fetched
 pub mod Legal
+pub mod Numbers
 pub mod Run
+pub mod History
 pub mod Sheet
 pub mod Loaded
 pub mod Pasted
 pub mod OnePress
 pub mod Walk
+pub mod Replay
 -- Examples, which only the checker reads
 mod Given
 mod Examples

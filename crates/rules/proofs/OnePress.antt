@@ -245,7 +245,7 @@ module _ (l : Lent) (s₀ : State) (t₀ : Stage) (slots₀ : List ℕ) (room : 
           ∙ ap (λ (x : ℕ). take x (oldWords (last .from .frame) (last .by .first) (last .by .many))) (sym (zero-add (last .by .many)))
           ∙ take-paste zeros6 0 (drop (last .by .first) (last .from .frame)) (last .by .many) (omega arith) (omega (arith, last-frame, g .within, length-drop (last .by .first) (last .from .frame)))
 
-      back-sound : entryAsked l s log (10 * k) ≡ passed tt
+      back-sound : entryAsked (l .code) s log (10 * k) ≡ passed tt
       unfolding entryAsked _else_ _>>_
       back-sound =
           let g = last-legal in

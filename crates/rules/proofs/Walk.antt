@@ -1,14 +1,14 @@
 -- THE THEOREM on a whole list of presses: whatever the presses, the words in the slots and the log. Assumes nothing.
-use Prim.Native.Nat.{ℕ, zero, suc, _+_, _<_}
+use Prim.Native.Nat.{ℕ, zero, suc, _+_, _*_, _<_}
 use mathlib.Core.Path.{_≡_, refl, sym, ap, subst, _∙_}
 use mathlib.Core.Bool.{Bool, true, false, cond}
-use mathlib.Core.Option.{none, some}
+use mathlib.Core.Option.{Option, none, some}
 use mathlib.Core.List.{List, [], _∷_, _++_}
 use native.Mathlib.Omega.{arith}
 use native.Mathlib.Nat.{zero-add, add-zero}
 use borrow.Author.Tests.{ltb-true}
 use lib.ListN.{length, take, drop, take-append-drop}
-use lib.Dec.{ltb}
+use lib.Dec.{ltb, leb}
 use Rattle.rules.specs.declared.State.{State}
 use Rattle.rules.specs.declared.Reading.{Reading}
 use Rattle.rules.specs.declared.Decision.{Decision}
@@ -16,16 +16,17 @@ use Rattle.rules.specs.declared.Decision.the-variants as Decision
 use Rattle.rules.specs.declared.Pressed.{Pressed}
 use Rattle.rules.specs.declared.Pressed.the-variants.{Granted, Return, Throw, Refused}
 use Rattle.rules.specs.declared.End.the-variants as End
-use Rattle.rules.specs.Asked.{passed}
+use Rattle.rules.specs.Asked.{passed, _else_}
 use Rattle.rules.specs.Questions.{Lent}
 use Rattle.rules.specs.Step.{frame, decideOf, moved, updateWords, written}
 use Rattle.rules.specs.Run.{runFrom, uncounted, runOf}
 use Rattle.rules.specs.Fetch.{u8}
 use Rattle.rules.specs.Sheet.{sheetAsked, memoryAsked, loadedState, loadedSlots, loadedPool, Loaded, loadOf}
-use Rattle.rules.specs.Walk.{Stage, stageOf, decisionAt, next, stage, Press, forward, back, plainAnswer, netAfter, plainAnswers, plainNet, pressOf, Walked, walkOf, one, grants, Whole, stage0, Demand3}
+use Rattle.rules.specs.Walk.{Stage, stageOf, decisionAt, next, stage, Press, forward, back, askedAnswer, forwardAnswer, decisionOf, plainAnswer, netAfter, plainAnswers, plainNet, pressOf, Walked, walkOf, one, grants, refusedWith, refusals, Whole, stage0, Demand3}
 use Rattle.rules.proofs.Questions.{Framed, frame-passed}
 use Rattle.rules.proofs.Step.{run-ordinary}
 use Rattle.rules.proofs.Legal.{ordinary-legal, still-framed}
+use Rattle.rules.proofs.Numbers.{IfRefused, decide-numbered, not-14}
 use Rattle.rules.proofs.Sheet.{load-accepted}
 use Rattle.rules.proofs.Loaded.{frame-is, loaded-framed}
 use Rattle.rules.proofs.Pasted.{take-front, drop-front}
@@ -71,6 +72,35 @@ module _ (l : Lent) (s₀ : State) (t₀ : Stage) (slots₀ : List ℕ) (room : 
       let h = tally ps (netAfter p net (plainAnswer l s₀ t₀ room p net)) in
       let m = moves p net in
       omega arith
+
+  -- no answer of the plain walk is 14: a step's are 1 to 11, question 11's is 12, and back's is 13
+  never-14 : (p : Press) (net : ℕ) → refusedWith 14 (plainAnswer l s₀ t₀ room p net) ≡ 0
+  unfolding plainAnswer _else_
+  never-14 forward net = of-stage (stage l s₀ t₀ net)
+    where
+      of-log : (b : Bool) → refusedWith 14 (askedAnswer (b else 12)) ≡ 0
+      of-log true = refl
+      of-log false = refl
+
+      of-decision : (d : Decision) → IfRefused d → refusedWith 14 (forwardAnswer room net d) ≡ 0
+      of-decision (Decision.Ordinary u) h = of-log (leb (10 * net + 10) room)
+      of-decision (Decision.Return v) h = refl
+      of-decision Decision.Throw h = refl
+      of-decision (Decision.Refused n) h = rw (not-14 n h)
+
+      of-stage : (o : Option Stage) → refusedWith 14 (forwardAnswer room net (decisionOf l s₀ o)) ≡ 0
+      of-stage none = refl
+      of-stage (some t) = of-decision (decisionAt l s₀ t) (decide-numbered l (moved s₀ (t .pc) (t .depth) 0) (t .frame))
+  never-14 back net = of-net (ltb 0 net)
+    where
+      of-net : (b : Bool) → refusedWith 14 (cond b Granted (Refused 13)) ≡ 0
+      of-net true = refl
+      of-net false = refl
+
+  no-14 : (ps : List Press) (net : ℕ) → refusals 14 (plainAnswers l s₀ t₀ room ps net) ≡ 0
+  unfolding plainAnswers refusals
+  no-14 [] net = refl
+  no-14 (p ∷ ps) net = rw (never-14 p net, zero-add) (no-14 ps (netAfter p net (plainAnswer l s₀ t₀ room p net)))
 
 -- ---- a run of n steps, from where stage n exists, ends there
 
@@ -157,6 +187,7 @@ module _ (l : Lent) (s : State) (slots log : List ℕ) (f : Framed l s slots) (f
       let c = r .stands in
       record {
         answered = r .answered;
+        sound = rw (r .answered) (no-14 l s t₀ slots (length log) (frame-length l s slots f) presses 0);
         at-net = c .at-stage;
         difference = rw (r .answered) (tally l s t₀ slots (length log) (frame-length l s slots f) presses 0 ∙ zero-add _);
         sized = state-is s (w .state) net (c .stacked) (c .localed) (c .counted);

@@ -10,7 +10,8 @@ use Rattle.rules.specs.declared.End.{End}
 use Rattle.rules.specs.declared.End.the-variants as End
 use Rattle.rules.specs.Step.{Stepped, stepOf}
 use Rattle.rules.specs.Run.{Ran}
-use Rattle.rules.specs.Answers.{Answer, decisionAnswer, endAnswer}
+use Rattle.rules.specs.declared.Answer.{Answer}
+use Rattle.rules.specs.Answers.{decisionAnswer, endAnswer}
 use Rattle.rules.specs.Questions.{lent}
 use Rattle.rules.proofs.Given.{_equals_, AllHold, state, decided, changes, ran}
 

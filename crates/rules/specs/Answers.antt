@@ -7,12 +7,9 @@ use Rattle.rules.specs.declared.Decision.{Decision}
 use Rattle.rules.specs.declared.Decision.the-variants as Decision
 use Rattle.rules.specs.declared.End.{End}
 use Rattle.rules.specs.declared.End.the-variants as End
-
--- `low` and `high` are the value's words, 0 where there is none
-pub record Answer : Type 0 where
-  pub number : ℕ
-  pub low : ℕ
-  pub high : ℕ
+use Rattle.rules.specs.declared.Pressed.{Pressed}
+use Rattle.rules.specs.declared.Pressed.the-variants as Pressed
+use Rattle.rules.specs.declared.Answer.{Answer}
 
 -- a number and the bits of a value
 abbrev pub answer : ℕ → ℕ → Answer
@@ -40,3 +37,10 @@ endAnswer End.Stopped = answer 120 0
 endAnswer (End.Return v) = valueAnswer v
 endAnswer End.Throw = answer 110 0
 endAnswer (End.Refused n) = answer n 0
+
+-- a press: granted, or as the step at which it ended
+abbrev pub pressedAnswer : Pressed → Answer
+pressedAnswer Pressed.Granted = answer 0 0
+pressedAnswer (Pressed.Return v) = valueAnswer v
+pressedAnswer Pressed.Throw = answer 110 0
+pressedAnswer (Pressed.Refused n) = answer n 0

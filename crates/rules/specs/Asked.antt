@@ -23,6 +23,11 @@ unfoldable pub _>>_ : {A B : Type 0} → Asked A → Asked B → Asked B
 _>>_ (passed a) b = b
 _>>_ (refused n) b = refused n
 
+-- whether there is a yes to every question
+abbrev pub isPassed : {A : Type 0} → Asked A → Bool
+isPassed (passed a) = true
+isPassed (refused n) = false
+
 -- ---- the tests on numbers
 
 abbrev pub _≤ⁿ_ : ℕ → ℕ → Bool

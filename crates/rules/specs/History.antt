@@ -73,9 +73,9 @@ forwardOf l s slots log = forwardBy s slots log (decideOf l s slots)
 
 -- has the entry at an index of the log pc in the code, depth at most max_stack, at most six places, all in the frame? 14. Where it has no places its first
 -- place is not looked at
-unfoldable pub entryAsked : Lent → State → List ℕ → ℕ → Asked (Unit {0})
-entryAsked l s log k = do
-  getD log k 0 <ⁿ length (l .code) else 14
+unfoldable pub entryAsked : List ℕ → State → List ℕ → ℕ → Asked (Unit {0})
+entryAsked code s log k = do
+  getD log k 0 <ⁿ length code else 14
   getD log (k + 1) 0 ≤ⁿ s .«max_stack» else 14
   getD log (k + 3) 0 ≤ⁿ 6 else 14
   (getD log (k + 3) 0 =ⁿ 0) || (getD log (k + 2) 0 + getD log (k + 3) 0 ≤ⁿ s .«max_locals» + s .«max_stack») else 14
@@ -86,7 +86,7 @@ backAsked l s slots log = do
   frameAsked l s slots
   0 <ⁿ s .count else 13
   entryAt (s .count) ≤ⁿ length log else 14
-  entryAsked l s log (entryAt (s .count - 1))
+  entryAsked (l .code) s log (entryAt (s .count - 1))
 
 -- the old words written, pc and depth restored, count lowered; no log word changed
 abbrev pub restored : State → List ℕ → List ℕ → ℕ → Out

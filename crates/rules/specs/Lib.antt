@@ -9,3 +9,4 @@ pub mod Sheet
 pub mod History
 pub mod Walk
 pub mod Answers
+pub mod Presses

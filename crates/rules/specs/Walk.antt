@@ -12,7 +12,7 @@ use Rattle.rules.specs.declared.Decision.the-variants as Decision
 use Rattle.rules.specs.declared.Pressed.{Pressed}
 use Rattle.rules.specs.declared.Pressed.the-variants.{Granted, Return, Throw, Refused}
 use Rattle.rules.specs.declared.End.the-variants as End
-use Rattle.rules.specs.Asked.{Asked, passed, refused, _<ⁿ_}
+use Rattle.rules.specs.Asked.{Asked, passed, refused, _<ⁿ_, _=ⁿ_}
 use Rattle.rules.specs.Questions.{Lent, lent}
 use Rattle.rules.specs.Step.{frame, decideOf, moved, written}
 use Rattle.rules.specs.Run.{uncounted, runOf}
@@ -141,10 +141,23 @@ grants which [] answers = 0
 grants which (p ∷ ps) [] = 0
 grants which (p ∷ ps) (a ∷ rest) = one which p a + grants which ps rest
 
+-- how many presses were refused with a number
+abbrev pub refusedWith : ℕ → Pressed → ℕ
+refusedWith n Granted = 0
+refusedWith n (Return v) = 0
+refusedWith n Throw = 0
+refusedWith n (Refused m) = cond (m =ⁿ n) 1 0
+
+unfoldable pub refusals : ℕ → List Pressed → ℕ
+refusals n [] = 0
+refusals n (a ∷ rest) = refusedWith n a + refusals n rest
+
 -- DEMAND 3 of a list of presses, from a state and slots whose stage is stage 0, with a log of `room` words
 pub record Whole (l : Lent) (s₀ : State) (t₀ : Stage) (slots₀ : List ℕ) (room : ℕ) (presses : List Press) (w : Walked) : Type 0 where
   -- every press is answered as by the plain walk; so back is refused, with 13, exactly where net is 0
   pub answered : w .answers ≡ plainAnswers l s₀ t₀ room presses 0
+  -- 14 never comes
+  pub sound : refusals 14 (w .answers) ≡ 0
   -- the walk stands at stage net: same offset, same depth, same word in every local and stack place, also above the top
   pub at-net : stage l s₀ t₀ (plainNet l s₀ t₀ room presses 0) ≡ some (stageOf (w .state) (w .slots))
   -- net is the number of granted forwards less that of granted backs

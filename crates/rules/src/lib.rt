@@ -79,3 +79,10 @@ pub enum Load {
     },
     Refused(u32),
 }
+
+// What an answer says over the C boundary: a number, and the value that goes with it as two words, 0 where there is none.
+pub struct Answer {
+    pub number: u32,
+    pub low: u32,
+    pub high: u32,
+}

@@ -10,12 +10,12 @@ use borrow.Author.Tests.{leb-true}
 use Rattle.rules.specs.declared.Mark.{Mark}
 use Rattle.rules.specs.declared.Mark.the-variants.{LM, CD, KI, AR}
 use Rattle.rules.specs.declared.Reading.{Reading}
-use Rattle.rules.specs.Asked.{Asked, passed, refused, _else_, _>>_}
+use Rattle.rules.specs.Asked.{Asked, passed, refused, _else_, _>>_, isPassed}
 use Rattle.rules.specs.Sheet.{knownMark, memoryAsked}
-use Rattle.rules.proofs.Asked.{first-passed}
+use Rattle.rules.proofs.Asked.{first-passed, is-passed}
 use Rattle.sheet.specs.declared.marks.Known.the-variants as Known
 use Rattle.sheet.specs.declared.records.Record.the-variants as Record
-use Rattle.sheet.specs.Records.{markAnswer, recordAnswer, isPassed}
+use Rattle.sheet.specs.Records.{markAnswer, recordAnswer}
 
 pub mark-known : (x : Asked Mark) (m : Mark) → Known.Mark m ≡ markAnswer x → x ≡ passed m
 mark-known (passed k) m e = cc
@@ -42,11 +42,6 @@ pub record-refused : (x : Asked Reading) (k : ℕ) → Record.Refused k ≡ reco
 record-refused (passed q) k e = let z : _≡_ {A = ℕ} 0 1 = cc in absurd (omega arith)
 record-refused (refused n) k e = cc
 
-pub last-asked : (t : Bool) (n : ℕ) → t ≡ isPassed (t else n)
-unfolding _else_
-last-asked true n = refl
-last-asked false n = refl
-
 -- ---- the memory
 
 module _ (p : Reading) (slots kinds words : List ℕ) where
@@ -65,11 +60,7 @@ module _ (p : Reading) (slots kinds words : List ℕ) where
       go true true true true e = let z : _≡_ {A = ℕ} 0 1 = cc in absurd (omega arith)
 
   pub enough : isPassed (memoryAsked p slots kinds words) ≡ true → memoryAsked p slots kinds words ≡ passed tt
-  enough e = go (memoryAsked p slots kinds words) e
-    where
-      go : (x : Asked (Unit {0})) → isPassed x ≡ true → x ≡ passed tt
-      go (passed t) e = refl
-      go (refused n) e = let z : _≡_ {A = ℕ} 0 1 = cc in absurd (omega arith)
+  enough e = is-passed (memoryAsked p slots kinds words) e
 
   pub slots-reach : memoryAsked p slots kinds words ≡ passed tt → p .«max_locals» + p .«max_stack» ≤ length slots
   unfolding memoryAsked

@@ -1,5 +1,4 @@
 -- What the private functions of a record answer, case by case. Assumes nothing.
-use mathlib.Core.Bool.{Bool, true, false}
 use Rattle.rules.specs.declared.Mark.{Mark}
 use Rattle.rules.specs.declared.Reading.{Reading}
 use Rattle.rules.specs.Asked.{Asked, passed, refused}
@@ -15,7 +14,3 @@ markAnswer (refused n) = Known.Nothing
 abbrev pub recordAnswer : Asked Reading → Record
 recordAnswer (passed p) = Record.Read p
 recordAnswer (refused n) = Record.Refused n
-
-abbrev pub isPassed : Asked (Unit {0}) → Bool
-isPassed (passed t) = true
-isPassed (refused n) = false

@@ -6,9 +6,9 @@ use rules::Reading;
 ghost use mathlib.Core.Path.{_≡_};
 ghost use mathlib.Core.Bool.{_||_};
 ghost use lib.ListN.{length};
-ghost use Rattle.rules.specs.Asked.{_=ⁿ_, _<ⁿ_};
+ghost use Rattle.rules.specs.Asked.{_=ⁿ_, _<ⁿ_, isPassed};
 ghost use Rattle.rules.specs.Sheet.{unread, sheetAsked, memoryAsked};
-ghost use Rattle.sheet.specs.Records.{recordAnswer, isPassed};
+ghost use Rattle.sheet.specs.Records.{recordAnswer};
 
 // Nothing read yet.
 fn unread() -> Reading

@@ -1,6 +1,7 @@
 -- `decide` meets its contract. Assumes nothing.
 use mathlib.Core.Path.{sym, _∙_}
-use Rattle.interpreter.proofs.Answers.{frame-passed, by-frame}
+use Rattle.frame.proofs.FrameAnswers.{frame-passed}
+use Rattle.interpreter.proofs.Answers.{by-frame}
 use borrow.Author.Needs.{needs}
 use Rattle.interpreter.proofs.deciding.decide.Statement.{statement}
 use Rattle.interpreter.proofs.deciding.decide.Tie as tie

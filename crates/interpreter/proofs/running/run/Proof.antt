@@ -2,7 +2,7 @@
 use mathlib.Core.Path.{sym, _∙_}
 use denote.Ref.{now}
 use Rattle.rules.specs.Questions.{lent}
-use Rattle.interpreter.proofs.Answers.{frame-passed, frame-refused}
+use Rattle.frame.proofs.FrameAnswers.{frame-passed, frame-refused}
 use Rattle.interpreter.proofs.Turn.{told, refused-run, passed-run}
 use borrow.Author.Needs.{needs}
 use Rattle.interpreter.proofs.running.run.Statement.{statement}

@@ -3,7 +3,7 @@ use mathlib.Core.Path.{sym, _∙_}
 use borrow.Author.Tests.{le-leb, lt-leb, eq-eqb, ne-eqb, not-true, not-false}
 use Rattle.rules.specs.Asked.{_else_, _>>_}
 use Rattle.rules.specs.Sheet.{memoryAsked}
-use Rattle.sheet.proofs.Answers.{last-asked}
+use Rattle.rules.proofs.Asked.{last-asked}
 use borrow.Author.Needs.{needs}
 use Rattle.sheet.proofs.checking.is_enough.Statement.{statement}
 use Rattle.sheet.proofs.checking.is_enough.Tie as tie

@@ -1,0 +1,79 @@
+-- An entry of the log by what was read of it: whether it is sound, and what it gives back. Assumes nothing.
+use Prim.Native.Nat.{ℕ, _+_, _-_, _≤_, _<_}
+use mathlib.Core.Path.{_≡_, refl, sym, ap, _∙_}
+use mathlib.Core.Bool.{true, false}
+use mathlib.Core.List.{List, [], _∷_}
+use native.Mathlib.Omega.{arith}
+use lib.Dec.{leb}
+use lib.ListN.{length, getD, take, drop, length-drop}
+use lib.Seq.{paste, paste-zero, take-all}
+use borrow.Author.Tests.{lt-ltb, le-ltb, le-leb, lt-leb, eq-eqb, ne-eqb}
+use Rattle.rules.specs.declared.State.{State}
+use Rattle.rules.specs.Asked.{_else_, _>>_, isPassed}
+use Rattle.rules.specs.Step.{moved}
+use Rattle.rules.specs.History.{entryAsked, restored}
+use Rattle.rules.proofs.Asked.{last-asked}
+use Rattle.history.specs.declared.undo_log.Entry.{Entry}
+use Rattle.history.specs.Left.{entryOf, takenBack}
+
+-- the rest of a list from an index on, as it is lent
+pub rest : (l : List ℕ) (n : ℕ) → take (length l - n) (drop n l) ≡ drop n l
+rest l n = take-all (length l - n) (drop n l) (omega (arith, length-drop n l))
+
+-- a list of six is its six words
+pub six : (l : List ℕ) → length l ≡ 6 → getD l 0 0 ∷ getD l 1 0 ∷ getD l 2 0 ∷ getD l 3 0 ∷ getD l 4 0 ∷ getD l 5 0 ∷ [] ≡ l
+six [] h = absurd (omega arith)
+six (a ∷ []) h = absurd (omega arith)
+six (a ∷ b ∷ []) h = absurd (omega arith)
+six (a ∷ b ∷ c ∷ []) h = absurd (omega arith)
+six (a ∷ b ∷ c ∷ d ∷ []) h = absurd (omega arith)
+six (a ∷ b ∷ c ∷ d ∷ e ∷ []) h = absurd (omega arith)
+six (a ∷ b ∷ c ∷ d ∷ e ∷ f ∷ []) h = refl
+six (a ∷ b ∷ c ∷ d ∷ e ∷ f ∷ g ∷ l) h = absurd (omega arith)
+
+module _ (log : List ℕ) (k : ℕ) (e : Entry) (is : e ≡ entryOf log k) where
+  pc-read : e .pc ≡ getD log k 0
+  pc-read = ap (λ (x : Entry). x .pc) is
+
+  depth-read : e .depth ≡ getD log (k + 1) 0
+  depth-read = ap (λ (x : Entry). x .depth) is
+
+  pub first-read : e .first ≡ getD log (k + 2) 0
+  first-read = ap (λ (x : Entry). x .first) is
+
+  pub many-read : e .many ≡ getD log (k + 3) 0
+  many-read = ap (λ (x : Entry). x .many) is
+
+  -- ---- whether it is sound
+
+  module _ (code : List ℕ) (s : State) where
+    pub outside : length code ≤ e .pc → false ≡ isPassed (entryAsked code s log k)
+    unfolding entryAsked _else_ _>>_
+    outside h = simp (← pc-read, le-ltb _ _ h)
+
+    module _ (offset : e .pc < length code) where
+      pub too-deep : s .«max_stack» < e .depth → false ≡ isPassed (entryAsked code s log k)
+      unfolding entryAsked _else_ _>>_
+      too-deep h = simp (← pc-read, ← depth-read, lt-ltb _ _ offset, lt-leb _ _ h)
+
+      module _ (depth : e .depth ≤ s .«max_stack») where
+        pub too-many : 6 < e .many → false ≡ isPassed (entryAsked code s log k)
+        unfolding entryAsked _else_ _>>_
+        too-many h = simp (← pc-read, ← depth-read, ← many-read, lt-ltb _ _ offset, le-leb _ _ depth, lt-leb _ _ h)
+
+        pub no-places : e .many ≡ 0 → true ≡ isPassed (entryAsked code s log k)
+        unfolding entryAsked _else_ _>>_
+        no-places h = simp (← pc-read, ← depth-read, ← many-read, lt-ltb _ _ offset, le-leb _ _ depth, h)
+
+        pub some-places : e .many ≤ 6 → (e .many ≡ 0 → ⊥) → leb (e .first + e .many) (s .«max_locals» + s .«max_stack») ≡ isPassed (entryAsked code s log k)
+        unfolding entryAsked _else_ _>>_
+        some-places few h = simp (← pc-read, ← depth-read, ← first-read, ← many-read, lt-ltb _ _ offset, le-leb _ _ depth, le-leb _ _ few, ne-eqb _ _ h) (last-asked _ 14)
+
+  -- ---- what it gives back
+
+  module _ (s : State) (slots : List ℕ) (r : State) (is-state : r ≡ moved s (e .pc) (e .depth) (s .count - 1)) where
+    pub nothing-back : e .many ≡ 0 → takenBack r slots log ≡ restored s slots log k
+    nothing-back h = rw (is-state, ← pc-read, ← depth-read, ← many-read, h) (ap (λ (x : List ℕ). takenBack (moved s (e .pc) (e .depth) (s .count - 1)) x log) (paste-zero slots (getD log (k + 2) 0) (drop (k + 4) log)))
+
+    pub words-back : (after : List ℕ) → after ≡ paste slots (e .first) (drop (k + 4) log) (e .many) → takenBack r after log ≡ restored s slots log k
+    words-back after h = rw (is-state, h, pc-read, depth-read, first-read, many-read)

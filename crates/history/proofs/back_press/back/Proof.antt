@@ -1,0 +1,58 @@
+-- `back` meets its contract. Assumes nothing.
+use denote.Ref.{now}
+use Rattle.rules.specs.Questions.{lent}
+use mathlib.Core.Path.{sym, _∙_}
+use Rattle.frame.proofs.FrameAnswers.{frame-passed, frame-refused}
+use Rattle.rules.proofs.History.{back-by, back-passed}
+use borrow.Author.Needs.{needs}
+use Rattle.history.proofs.back_press.back.Statement.{statement}
+use Rattle.history.proofs.back_press.back.Tie as tie
+
+ask-back-requires : tie.Need-ask-back-requires
+ask-back-requires c κs = search needs
+
+enum-known-asked : tie.Need-enum-known-asked
+enum-known-asked c = search needs
+
+enum-told : tie.Need-enum-told
+enum-told c = search needs
+
+restore-requires : tie.Need-restore-requires
+restore-requires c κs =
+    let a = c .before .before .before .before .before .before .before .before .before .before .args in
+    let l = lent (now (a .code)) (now (a .kinds)) (now (a .words)) in
+    let passes = frame-passed _ (sym (c .before .enum-told .given .1) ∙ c .before .before .before .ask-back .ensures) in
+    let b = back-passed l (a .s) (now (a .slots)) (now (a .log)) passes in
+    ((b .some, b .reached), (b .few, b .within))
+
+same-length : tie.Need-same-length
+same-length c = search needs
+
+returns : tie.Need-returns
+returns c =
+    let a = c .before .before .before .before .before .before .before .before .before .before .args in
+    let l = lent (now (a .code)) (now (a .kinds)) (now (a .words)) in
+    sym (back-by l (a .s) (now (a .slots)) (now (a .log)) _ (frame-refused _ _ (sym (c .before .asked .given .1) ∙ c .before .before .before .ask-back .ensures)))
+
+same-length-2 : tie.Need-same-length-2
+same-length-2 c = search needs
+
+returns-2 : tie.Need-returns-2
+returns-2 c =
+    let a = c .before .before .before .before .before .before .before .before .before .before .before .before .before .args in
+    let l = lent (now (a .code)) (now (a .kinds)) (now (a .words)) in
+    let passes = frame-passed _ (sym (c .before .before .before .before .enum-told .given .1) ∙ c .before .before .before .before .before .before .ask-back .ensures) in
+    c .before .before .restore .ensures ∙ sym (back-by l (a .s) (now (a .slots)) (now (a .log)) _ passes)
+
+pub back-spec : {M : Type 1} → statement M
+back-spec =
+    tie.close
+    (tie.spec
+    ask-back-requires
+    enum-known-asked
+    enum-told
+    restore-requires
+    same-length
+    returns
+    same-length-2
+    returns-2)

@@ -1,0 +1,71 @@
+// Forward: a step with history.
+use crate::undo_log::entries;
+use crate::undo_log::write_entry;
+use frame::commit;
+use interpreter::decide;
+use interpreter::moved;
+use rules::Decision;
+use rules::Pressed;
+use rules::State;
+use rules::Update;
+ghost use mathlib.Core.Path.{_≡_};
+ghost use Prim.Native.Nat.{_+_, _≤_};
+ghost use lib.ListN.{length};
+ghost use Rattle.rules.specs.Questions.{lent};
+ghost use Rattle.rules.specs.History.{logAsked, grantedBy, forwardOf};
+ghost use Rattle.history.specs.Left.{pressed};
+
+// The state after a press, and its answer.
+pub struct Press {
+    pub state: State,
+    pub answer: Pressed,
+}
+
+// Question 11; then the undo record is written, and the step committed.
+fn grant(slots: &mut [u32], log: &mut [u32], s: State, u: Update) -> Press
+    requires { ⌜ (u .many ≤ 6) × (u .first + u .many ≤ s .«max_locals» + s .«max_stack») × (s .«max_locals» + s .«max_stack» ≤ length (now slots)) ⌝ }
+    ensures { λ r. ⌜ pressed r (now (slots .exit)) (now (log .exit)) ≡ grantedBy s (now (slots .entry)) (now (log .entry)) u (logAsked (s .count) (length (now (log .entry)))) ⌝ }
+{
+    if entries(log) <= s.count {
+        return Press {
+            state: s,
+            answer: Pressed::Refused(12),
+        };
+    }
+    write_entry(slots, log, s, u);
+    commit(slots, s, u);
+    let state = moved(s, u.pc, u.depth, s.count + 1);
+    Press {
+        state,
+        answer: Pressed::Granted,
+    }
+}
+
+// A press of forward on any code, pool, slots, log and state. One that is not granted writes nothing.
+pub fn forward(
+    code: &[u8],
+    kinds: &[u8],
+    words: &[u32],
+    slots: &mut [u32],
+    log: &mut [u32],
+    s: State,
+) -> Press
+    ensures { λ r. ⌜ pressed r (now (slots .exit)) (now (log .exit)) ≡ forwardOf (lent (now (code .entry)) (now (kinds .entry)) (now (words .entry))) s (now (slots .entry)) (now (log .entry)) ⌝ }
+{
+    let decision = decide(code, kinds, words, slots, s);
+    match decision {
+        Decision::Ordinary(u) => grant(slots, log, s, u),
+        Decision::Return(v) => Press {
+            state: s,
+            answer: Pressed::Return(v),
+        },
+        Decision::Throw => Press {
+            state: s,
+            answer: Pressed::Throw,
+        },
+        Decision::Refused(n) => Press {
+            state: s,
+            answer: Pressed::Refused(n),
+        },
+    }
+}

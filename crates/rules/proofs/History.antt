@@ -1,0 +1,115 @@
+-- Forward by its decision, and the questions of back one by one. Assumes nothing.
+use Prim.Native.Nat.{ℕ, _+_, _-_, _≤_, _<_}
+use mathlib.Core.Path.{_≡_, refl}
+use mathlib.Core.Bool.{Bool, true, false, _||_}
+use mathlib.Core.List.{List}
+use native.Mathlib.Omega.{arith}
+use lib.Dec.{ltb, leb, eqb}
+use lib.ListN.{length, getD}
+use borrow.Author.Tests.{lt-ltb, le-leb, lt-leb, ltb-true, leb-true, eqb-true}
+use Rattle.rules.specs.declared.State.{State}
+use Rattle.rules.specs.declared.Update.{Update}
+use Rattle.rules.specs.declared.Decision.{Decision}
+use Rattle.rules.specs.declared.Pressed.the-variants.{Refused}
+use Rattle.rules.specs.Asked.{Asked, passed, refused, _else_, _>>_, isPassed}
+use Rattle.rules.specs.Questions.{Lent, frameAsked}
+use Rattle.rules.specs.Step.{decideOf}
+use Rattle.rules.specs.History.{kept, entryAt, granted, logAsked, grantedBy, forwardBy, forwardOf, entryAsked, backAsked, backBy, backOf}
+use Rattle.rules.proofs.Asked.{first-passed, last-passed, both-passed}
+use Rattle.rules.proofs.Questions.{framed}
+
+-- ---- forward
+
+module _ (s : State) (slots log : List ℕ) where
+  pub forward-by : (l : Lent) (d : Decision) → decideOf l s slots ≡ d → forwardOf l s slots log ≡ forwardBy s slots log d
+  unfolding forwardOf
+  forward-by l d e = rw e
+
+  pub with-room : (u : Update) → entryAt (s .count) + 10 ≤ length log → granted s slots log u ≡ grantedBy s slots log u (logAsked (s .count) (length log))
+  unfolding _else_
+  with-room u h = rw (le-leb (entryAt (s .count) + 10) (length log) h)
+
+  pub without-room : (u : Update) → length log < entryAt (s .count) + 10 → kept s slots log (Refused 12) ≡ grantedBy s slots log u (logAsked (s .count) (length log))
+  unfolding _else_
+  without-room u h = rw (lt-leb (entryAt (s .count) + 10) (length log) h)
+
+-- ---- the entry that is taken back
+
+-- what a yes to its questions says of the words that are written
+pub record Restorable (s : State) (log : List ℕ) (k : ℕ) : Type 0 where
+  pub few : getD log (k + 3) 0 ≤ 6
+  pub within : 0 < getD log (k + 3) 0 → getD log (k + 2) 0 + getD log (k + 3) 0 ≤ s .«max_locals» + s .«max_stack»
+
+module _ (code : List ℕ) (s : State) (log : List ℕ) (k : ℕ) where
+  pub restorable : entryAsked code s log k ≡ passed tt → Restorable s log k
+  unfolding entryAsked
+  restorable e =
+      let a = first-passed _ 14 _ e in
+      let b = first-passed _ 14 _ (a .1) in
+      let c = first-passed _ 14 _ (b .1) in
+      record { few = leb-true _ _ (c .0); within = of-two (eqb (getD log (k + 3) 0) 0) refl (last-passed _ 14 (c .1)) }
+    where
+      of-two : (x : Bool) → eqb (getD log (k + 3) 0) 0 ≡ x → (x || leb (getD log (k + 2) 0 + getD log (k + 3) 0) (s .«max_locals» + s .«max_stack»)) ≡ true
+          → 0 < getD log (k + 3) 0 → getD log (k + 2) 0 + getD log (k + 3) 0 ≤ s .«max_locals» + s .«max_stack»
+      of-two true e h t = absurd (omega (arith, eqb-true (getD log (k + 3) 0) 0 e))
+      of-two false e h t = leb-true _ _ h
+
+  -- the one number that a no gives
+  pub not-sound : isPassed (entryAsked code s log k) ≡ false → entryAsked code s log k ≡ refused 14
+  unfolding entryAsked _else_ _>>_
+  not-sound e = go (ltb (getD log k 0) (length code)) (leb (getD log (k + 1) 0) (s .«max_stack»)) (leb (getD log (k + 3) 0) 6)
+      (eqb (getD log (k + 3) 0) 0 || leb (getD log (k + 2) 0 + getD log (k + 3) 0) (s .«max_locals» + s .«max_stack»)) e
+    where
+      go : (a b c d : Bool) → isPassed ((a else 14) >> (b else 14) >> (c else 14) >> (d else 14)) ≡ false → ((a else 14) >> (b else 14) >> (c else 14) >> (d else 14)) ≡ refused 14
+      go false b c d e = refl
+      go true false c d e = refl
+      go true true false d e = refl
+      go true true true false e = refl
+      go true true true true e = let z : _≡_ {A = ℕ} 0 1 = cc in absurd (omega arith)
+
+-- ---- the questions of back
+
+module _ (l : Lent) (s : State) (slots log : List ℕ) where
+  pub back-frame : (n : ℕ) → frameAsked l s slots ≡ refused n → backAsked l s slots log ≡ refused n
+  unfolding backAsked _>>_
+  back-frame n e = rw e
+
+  module _ (framed : frameAsked l s slots ≡ passed tt) where
+    pub back-first : s .count ≡ 0 → backAsked l s slots log ≡ refused 13
+    unfolding backAsked _else_ _>>_
+    back-first h = rw (framed, h)
+
+    module _ (some : 0 < s .count) where
+      pub back-short : length log < entryAt (s .count) → backAsked l s slots log ≡ refused 14
+      unfolding backAsked _else_ _>>_
+      back-short h = rw (framed, lt-ltb _ _ some, lt-leb _ _ h)
+
+      pub back-entry : entryAt (s .count) ≤ length log → backAsked l s slots log ≡ entryAsked (l .code) s log (entryAt (s .count - 1))
+      unfolding backAsked _else_ _>>_
+      back-entry h = rw (framed, lt-ltb _ _ some, le-leb _ _ h)
+
+  -- what a yes to all of them says: the entry's words can be written
+  pub record BackPassed : Type 0 where
+    pub some : 0 < s .count
+    pub reached : entryAt (s .count) ≤ length log
+    pub few : getD log (entryAt (s .count - 1) + 3) 0 ≤ 6
+    pub within : 0 < getD log (entryAt (s .count - 1) + 3) 0 → getD log (entryAt (s .count - 1) + 2) 0 + getD log (entryAt (s .count - 1) + 3) 0 ≤ length slots
+
+  pub back-passed : backAsked l s slots log ≡ passed tt → BackPassed
+  unfolding backAsked
+  back-passed e =
+      let a = both-passed (frameAsked l s slots) _ e in
+      let b = first-passed _ 13 _ (a .1) in
+      let c = first-passed _ 14 _ (b .1) in
+      let f = framed l s slots (a .0) in
+      let r = restorable (l .code) s log (entryAt (s .count - 1)) (c .1) in
+      record {
+        some = ltb-true 0 (s .count) (b .0);
+        reached = leb-true (entryAt (s .count)) (length log) (c .0);
+        few = r .few;
+        within = λ h. omega (arith, r .within h, f .room);
+      }
+
+  pub back-by : (x : Asked (Unit {0})) → backAsked l s slots log ≡ x → backOf l s slots log ≡ backBy s slots log x
+  unfolding backOf
+  back-by x e = rw e

@@ -1,0 +1,150 @@
+-- A step is refused with a number from 1 to 11. Assumes nothing.
+use Prim.Native.Nat.{ℕ}
+use mathlib.Core.Path.{_≡_, refl}
+use mathlib.Core.Bool.{Bool, true, false, _&&_, cond}
+use mathlib.Core.List.{List, []}
+use mathlib.Core.Option.{Option, none, some}
+use native.Mathlib.Omega.{arith}
+use borrow.Author.Tests.{eqb-true}
+use lib.Dec.{eqb}
+use lib.IntN.{ℤ, pos, negsuc}
+use Rattle.values.specs.Kinds.{placesOf}
+use Rattle.rules.specs.declared.State.{State}
+use Rattle.rules.specs.declared.Decision.{Decision}
+use Rattle.rules.specs.declared.Decision.the-variants.{Ordinary, Return, Throw, Refused}
+use Rattle.rules.specs.Asked.{Asked, passed, refused, _else_, _>>=_, _>>_, _≤ⁿ_, _=ⁿ_}
+use Rattle.rules.specs.Forms.{Row, Operand, Format, alone, implied, byte, short, index, index2, index-const, branch, branch4, table, pairs, widened, Result, pushes, stores, divides, branches, returns}
+use Rattle.rules.specs.Instructions.{rowOf}
+use Rattle.rules.specs.Fetch.{u8, Instruction, coreRow, core, sized, wideOpcode, wideAsked, tableAsked, lookupAsked, byFormat, fetched}
+use Rattle.rules.specs.Questions.{Lent, pushed, frameAsked, needsAsked}
+use Rattle.rules.specs.Step.{base, inside, ordinary, following, target, outcome, decision, decideOf}
+use Rattle.rules.proofs.Step.{result}
+
+-- ---- a row of questions
+
+abbrev pub OfStep : ℕ → Type 0
+OfStep n = ((1 ≤ⁿ n) && (n ≤ⁿ 11)) ≡ true
+
+-- its refusals have such numbers, and P holds of what passes it
+unfoldable Numbered : {A : Type 0} → (A → Type 0) → Asked A → Type 0
+Numbered P (passed a) = P a
+Numbered P (refused n) = OfStep n
+
+abbrev Any : {A : Type 0} → A → Type 0
+Any a = Unit {0}
+
+last : (t : Bool) (n : ℕ) → OfStep n → Numbered Any (t else n)
+unfolding Numbered _else_
+last true n h = tt
+last false n h = h
+
+module _ {A : Type 0} (P : A → Type 0) where
+  after : {B : Type 0} (x : Asked B) (y : Asked A) → Numbered Any x → Numbered P y → Numbered P (x >> y)
+  unfolding Numbered _>>_
+  after (passed b) y h k = k
+  after (refused n) y h k = h
+
+  bound : {B : Type 0} (x : Asked B) (f : B → Asked A) → Numbered Any x → ((b : B) → Numbered P (f b)) → Numbered P (x >>= f)
+  unfolding Numbered _>>=_
+  bound (passed b) f h k = k b
+  bound (refused n) f h k = h
+
+  asked : (t : Bool) (n : ℕ) (y : Asked A) → OfStep n → Numbered P y → Numbered P ((t else n) >> y)
+  asked t n y h k = after (t else n) y (last t n h) k
+
+  either : (t : Bool) (x y : Asked A) → Numbered P x → Numbered P y → Numbered P (cond t x y)
+  either true x y h k = h
+  either false x y h k = k
+
+-- ---- the questions of a step
+
+frame-numbered : (l : Lent) (s : State) (slots : List ℕ) → Numbered Any (frameAsked l s slots)
+unfolding frameAsked
+frame-numbered l s slots =
+    asked Any _ 1 _ refl (asked Any _ 1 _ refl (asked Any _ 1 _ refl (asked Any _ 2 _ refl (asked Any _ 2 _ refl (asked Any _ 2 _ refl (last _ 3 refl))))))
+
+core-numbered : (r : Option Row) → Numbered Any (coreRow r)
+unfolding Numbered
+core-numbered none = refl
+core-numbered (some r) = tt
+
+module _ (code : List ℕ) (pc : ℕ) where
+  sized-numbered : (r : Row) (n : ℕ) (o : Operand) → Numbered Any (sized code pc r n o)
+  unfolding Numbered
+  sized-numbered r n o = asked Any _ 5 _ refl tt
+
+  wide-numbered : Numbered Any (wideAsked code pc)
+  unfolding wideAsked
+  wide-numbered =
+      asked Any _ 5 _ refl (asked Any _ 4 _ refl (bound Any (core (wideOpcode code pc)) _ (core-numbered (rowOf (wideOpcode code pc))) (λ r.
+      either Any (wideOpcode code pc =ⁿ 132) _ _ (sized-numbered r 6 _) (sized-numbered r 4 _))))
+
+  format-numbered : (r : Row) (f : Format) → Numbered Any (byFormat code pc r f)
+  unfolding Numbered tableAsked lookupAsked
+  format-numbered r alone = sized-numbered r 1 _
+  format-numbered r (implied n) = sized-numbered r 1 _
+  format-numbered r byte = sized-numbered r 2 _
+  format-numbered r short = sized-numbered r 3 _
+  format-numbered r index = sized-numbered r 2 _
+  format-numbered r index2 = sized-numbered r 3 _
+  format-numbered r index-const = sized-numbered r 3 _
+  format-numbered r branch = sized-numbered r 3 _
+  format-numbered r branch4 = sized-numbered r 5 _
+  format-numbered r table = asked Any _ 5 _ refl (asked Any _ 6 _ refl (asked Any _ 5 _ refl tt))
+  format-numbered r pairs = asked Any _ 5 _ refl (asked Any _ 6 _ refl (asked Any _ 5 _ refl (asked Any _ 6 _ refl tt)))
+  format-numbered r widened = wide-numbered
+
+  fetch-numbered : Numbered Any (fetched code pc)
+  unfolding fetched
+  fetch-numbered = bound Any (core (u8 code pc)) _ (core-numbered (rowOf (u8 code pc))) (λ r. format-numbered r (r .format))
+
+-- ---- the decision
+
+abbrev pub IfRefused : Decision → Type 0
+IfRefused (Ordinary u) = Unit {0}
+IfRefused (Return v) = Unit {0}
+IfRefused Throw = Unit {0}
+IfRefused (Refused n) = OfStep n
+
+decision-numbered : (x : Asked Decision) → Numbered IfRefused x → IfRefused (decision x)
+unfolding Numbered
+decision-numbered (passed d) h = h
+decision-numbered (refused n) h = h
+
+module _ (l : Lent) (s : State) where
+  needs-numbered : (i : Instruction) → Numbered Any (needsAsked l s i)
+  unfolding needsAsked
+  needs-numbered i = asked Any _ 7 _ refl (asked Any _ 8 _ refl (asked Any _ 9 _ refl (last _ 10 refl)))
+
+  inside-numbered : (to : ℤ) → Numbered Any (inside (l .code) to)
+  unfolding Numbered
+  inside-numbered (pos n) = asked Any _ 11 _ refl tt
+  inside-numbered (negsuc n) = refl
+
+  ordinary-numbered : (i : Instruction) (to : ℤ) (at n : ℕ) (ws : List ℕ) → Numbered IfRefused (ordinary l s i to at n ws)
+  unfolding Numbered
+  ordinary-numbered i to at n ws = bound IfRefused (inside (l .code) to) _ (inside-numbered to) (λ pc. tt)
+
+  outcome-numbered : (i : Instruction) (r : Result) → Numbered IfRefused (outcome l s i r)
+  unfolding Numbered
+  outcome-numbered i (pushes ws) = ordinary-numbered i (following s i) (base s i) (pushed i) ws
+  outcome-numbered i (stores ws) = ordinary-numbered i (following s i) (i .operand .index) (placesOf (i .rule .locals)) ws
+  outcome-numbered i (divides by ws) = either IfRefused (by =ⁿ 0) _ _ tt (ordinary-numbered i (following s i) (base s i) (pushed i) ws)
+  outcome-numbered i (branches t z) = ordinary-numbered i (cond t (target s z) (following s i)) 0 0 []
+  outcome-numbered i (returns v) = tt
+
+  -- THE LAW
+  pub decide-numbered : (slots : List ℕ) → IfRefused (decideOf l s slots)
+  unfolding decideOf
+  decide-numbered slots = decision-numbered _
+      (after IfRefused (frameAsked l s slots) _ (frame-numbered l s slots)
+      (bound IfRefused (fetched (l .code) (s .pc)) _ (fetch-numbered (l .code) (s .pc)) (λ i.
+      after IfRefused (needsAsked l s i) _ (needs-numbered i) (outcome-numbered i (result l s slots i)))))
+
+-- so it is not 14
+pub not-14 : (n : ℕ) → OfStep n → eqb n 14 ≡ false
+not-14 n h = go (eqb n 14) refl
+  where
+    go : (b : Bool) → eqb n 14 ≡ b → b ≡ false
+    go true e = let z : ((1 ≤ⁿ 14) && (14 ≤ⁿ 11)) ≡ true = rw (eqb-true n 14 e) at h in let y : _≡_ {A = ℕ} 0 1 = cc in absurd (omega arith)
+    go false e = refl
