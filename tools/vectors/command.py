@@ -4,15 +4,26 @@ import sys
 
 
 def run(usage, vectors):
-    """Writes the vectors to the file named, or with --check compares the file with them; else shows the usage."""
-    arguments = sys.argv[1:]
-    if len(arguments) == 2 and arguments[0] == '--check':
-        with open(arguments[1], 'rb') as file:
-            if file.read() != vectors().encode('ascii'):
-                sys.exit(f'{arguments[1]}: not what tools/vectors/{os.path.basename(sys.argv[0])} writes')
-    elif len(arguments) == 1 and not arguments[0].startswith('-'):
-        text = vectors()
-        with open(arguments[0], 'w', encoding='ascii', newline='\n') as file:
-            file.write(text)
-    else:
+    """For one file of text: its name is the only argument, but for --check before it."""
+    make_file(usage, sys.argv[1:], {(): lambda: vectors().encode('ascii')})
+
+
+def run_named(usage, files):
+    """For several files: which one is the argument before its name."""
+    make_file(usage, sys.argv[1:], {(name,): made for name, made in files.items()})
+
+
+def make_file(usage, given, files):
+    """Writes the file asked for, or with --check compares it; else shows the usage."""
+    is_check = given[:1] == ['--check']
+    *which, path = given[is_check:] or ['-']
+    if tuple(which) not in files or path.startswith('-'):
         sys.exit(usage)
+    made = files[tuple(which)]()
+    if not is_check:
+        with open(path, 'wb') as file:
+            file.write(made)
+        return
+    with open(path, 'rb') as file:
+        if file.read() != made:
+            sys.exit(f'{path}: not what tools/vectors/{os.path.basename(sys.argv[0])} writes')

@@ -20,8 +20,7 @@ The samples stand one after another, with nothing between them. Numbers are big-
           72-79  count
           80-    the sheet, then the log's words, 4 bytes each, then the presses, a byte each: 0 is back, any other byte is forward
 
-Before a load the lent memory holds junk: kinds[i] is (7 * i + 1) % 256, words[i] is DEAD0000 + i, slots[i] is BEEF0000 + i. Before the
-list, answer word i is FACE0000 + i.
+Before a load the lent memory holds junk: each kind is AB, each word DEADDEAD, each slot BEEFBEEF. Before the list each answer word is FACEFACE.
 
 An answer is these lines for each sample, in the same order. Slots, checksums and values are upper-case hexadecimal, other numbers are
 decimal, and an empty list is -:
@@ -52,8 +51,8 @@ alone; but for those over entries without a pattern, each says by hand what it g
 import collections
 import copy
 import struct
-import sys
 
+import command
 import methods
 import sheets
 import tracing
@@ -226,9 +225,7 @@ MOST_STEPS = 130
 
 def lent(name, sheet, slots, pool, begin):
     """What lies in the lent parts after a load that found junk there, and the state to begin with."""
-    kinds = [(7 * k + 1) % 256 for k in range(pool)]
-    words = [0xDEAD0000 + k for k in range(pool)]
-    places_lent = [0xBEEF0000 + k for k in range(slots)]
+    kinds, words, places_lent = [0xAB] * pool, [0xDEADDEAD] * pool, [0xBEEFBEEF] * slots
     max_stack, max_locals, start, length = sheets.load(sheet, kinds, words, places_lent)
     return methods.Sample(name, None, sheet[start:start + length], kinds, words, places_lent, (max_stack, max_locals, *begin))
 
@@ -699,7 +696,7 @@ def result(given):
     except sheets.Refused as refusal:
         assert given.gives == f'sheet {refusal.args[0]}', given.name
         return refusal.args[0]
-    words = [0xFACE0000 + k for k in range(given.words)]
+    words = [0xFACEFACE] * given.words
     is_short = given.words < 3 * len(given.presses)
     answers, m, log = ([], tracing.Machine(start), given.log) if is_short else judged(given, start)
     words[:3 * len(answers)] = [number for answer in answers for number in three_words(answer)]
@@ -776,25 +773,5 @@ def all_answers():
     return ''.join(line + '\n' for line in text).encode('ascii')
 
 
-FILES = {'samples': all_samples, 'answers': all_answers}
-
-
-def run(given):
-    """Writes the file asked for, or with --check compares it; else shows the usage."""
-    is_check = given[:1] == ['--check']
-    chosen = given[1:] if is_check else given
-    if len(chosen) != 2 or chosen[0] not in FILES or chosen[1].startswith('-'):
-        sys.exit(__doc__)
-    which, path = chosen
-    made = FILES[which]()
-    if not is_check:
-        with open(path, 'wb') as file:
-            file.write(made)
-        return
-    with open(path, 'rb') as file:
-        if file.read() != made:
-            sys.exit(f'{path}: not what tools/vectors/presses.py writes')
-
-
 if __name__ == '__main__':
-    run(sys.argv[1:])
+    command.run_named(__doc__, {'samples': all_samples, 'answers': all_answers})

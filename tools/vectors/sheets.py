@@ -32,6 +32,8 @@ import collections
 import struct
 import sys
 
+import command
+
 
 # The load.
 
@@ -572,25 +574,5 @@ def all_answers():
     return ''.join(map(answer, samples())).encode('ascii')
 
 
-FILES = {'samples': all_samples, 'answers': all_answers}
-
-
-def run(given):
-    """Writes the file asked for, or with --check compares it; else shows the usage."""
-    is_check = given[:1] == ['--check']
-    chosen = given[1:] if is_check else given
-    if len(chosen) != 2 or chosen[0] not in FILES or chosen[1].startswith('-'):
-        sys.exit(__doc__)
-    which, path = chosen
-    made = FILES[which]()
-    if not is_check:
-        with open(path, 'wb') as file:
-            file.write(made)
-        return
-    with open(path, 'rb') as file:
-        if file.read() != made:
-            sys.exit(f'{path}: not what tools/vectors/sheets.py writes')
-
-
 if __name__ == '__main__':
-    run(sys.argv[1:])
+    command.run_named(__doc__, {'samples': all_samples, 'answers': all_answers})

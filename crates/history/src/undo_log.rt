@@ -102,11 +102,11 @@ pub(crate) fn restore(slots: &mut [u32], log: &[u32], s: State) -> State
 {
     let count = s.count - 1;
     let entry = read_entry(log, count);
-    if entry.many == 0 {
+    let many = entry.many as usize;
+    if many == 0 {
         return moved(s, entry.pc, entry.depth, count);
     }
     let first = entry.first as usize;
-    let many = entry.many as usize;
     let old = entry_at(count) + 4;
     write_words(slots, first, &log[old..], many);
     moved(s, entry.pc, entry.depth, count)

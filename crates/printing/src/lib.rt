@@ -1,5 +1,12 @@
 // Text on standard output, piece by piece, for the programs.
+mod lines;
+mod sums;
+
 use libc::STDOUT_FILENO;
+pub use lines::print_state;
+pub use lines::print_words;
+pub use sums::print_sum_of_bytes;
+pub use sums::print_sum_of_words;
 
 // Prints some bytes.
 pub fn print(text: &[u8]) {
@@ -36,9 +43,8 @@ fn digit(value: u64) -> u8 {
     if v < 10 { b'0' + v } else { b'A' + (v - 10) }
 }
 
-// Prints the low digits of a number in hexadecimal, at most 16, with a blank before them.
-pub fn print_hex(n: u64, digits: u32) {
-    print_byte(b' ');
+// Prints the low digits of a number in hexadecimal, at most 16.
+pub fn print_digits(n: u64, digits: u32) {
     let mut i: u32 = 0;
     while i < 16 {
         if 16 - i <= digits {
@@ -46,4 +52,10 @@ pub fn print_hex(n: u64, digits: u32) {
         }
         i += 1;
     }
+}
+
+// The same, with a blank before them.
+pub fn print_hex(n: u64, digits: u32) {
+    print_byte(b' ');
+    print_digits(n, digits);
 }

@@ -7,6 +7,8 @@ use Rattle.rules.specs.declared.Pressed.{Pressed}
 use Rattle.rules.specs.declared.Pressed.the-variants.{Granted, Return, Throw, Refused}
 use Rattle.rules.specs.Questions.{lent}
 use Rattle.rules.specs.History.{Out, forwardOf, entryAsked, backAsked, backOf}
+use Rattle.rules.specs.Walk.{pressOf, walkOf}
+use Rattle.rules.specs.Presses.{pressesOfBytes, answersWords, Replayed, replayOf}
 use Rattle.rules.proofs.Given.{_equals_, AllHold, state, decided}
 
 -- ---- a method of one local and three places of stack, in slots of which one lies beyond the frame
@@ -65,3 +67,35 @@ backs =
 backs-hold : AllHold backs
 unfolding back
 backs-hold = refl
+
+-- ---- a list of presses as bytes: ICONST_3, IRETURN, in a log of one entry
+
+unfoldable replay : List ℕ → List ℕ → Replayed
+unfolding replayOf pressesOfBytes answersWords walkOf pressOf forwardOf backOf backAsked entryAsked decided
+replay bytes answers = replayOf (lent (6 ∷ 172 ∷ []) [] []) bytes (state 3 1 0 0 0) (9 ∷ 7 ∷ 8 ∷ 6 ∷ 5 ∷ []) junk answers
+
+abbrev replays : List (Replayed × Replayed)
+replays =
+    -- forward, back, back at the load (13), forward by another byte, and the return of 3; the sixteenth answer word stays
+    replay (1 ∷ 0 ∷ 0 ∷ 255 ∷ 1 ∷ []) (50 ∷ 50 ∷ 50 ∷ 50 ∷ 50 ∷ 50 ∷ 50 ∷ 50 ∷ 50 ∷ 50 ∷ 50 ∷ 50 ∷ 50 ∷ 50 ∷ 50 ∷ 50 ∷ []) equals record {
+      number = 0;
+      state = state 3 1 1 1 1;
+      slots = 9 ∷ 3 ∷ 8 ∷ 6 ∷ 5 ∷ [];
+      log = 0 ∷ 0 ∷ 1 ∷ 1 ∷ 7 ∷ 0 ∷ 0 ∷ 0 ∷ 0 ∷ 0 ∷ 11 ∷ [];
+      answers = 0 ∷ 0 ∷ 0 ∷ 0 ∷ 0 ∷ 0 ∷ 13 ∷ 0 ∷ 0 ∷ 0 ∷ 0 ∷ 0 ∷ 101 ∷ 3 ∷ 0 ∷ 50 ∷ [];
+    } ∷
+    -- five answer words for two presses
+    replay (1 ∷ 0 ∷ []) (50 ∷ 50 ∷ 50 ∷ 50 ∷ 50 ∷ []) equals record {
+      number = 1;
+      state = state 3 1 0 0 0;
+      slots = 9 ∷ 7 ∷ 8 ∷ 6 ∷ 5 ∷ [];
+      log = junk;
+      answers = 50 ∷ 50 ∷ 50 ∷ 50 ∷ 50 ∷ [];
+    } ∷
+    -- no press needs no words
+    replay [] [] equals record { number = 0; state = state 3 1 0 0 0; slots = 9 ∷ 7 ∷ 8 ∷ 6 ∷ 5 ∷ []; log = junk; answers = [] } ∷
+    []
+
+replays-hold : AllHold replays
+unfolding replay
+replays-hold = refl

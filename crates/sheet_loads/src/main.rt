@@ -5,10 +5,11 @@ mod results;
 mod samples;
 
 use crate::results::print_load;
-use crate::results::print_sum;
 use crate::samples::Head;
 use crate::samples::read_head;
 use printing::print;
+use printing::print_sum_of_bytes;
+use printing::print_sum_of_words;
 use printing::print_word;
 
 // More samples than any file has: the loop over them has to end.
@@ -18,11 +19,11 @@ const MOST: u64 = 100_000;
 fn load_sheet(sheet: &[u8], slots: &mut [u32], kinds: &mut [u8], words: &mut [u32]) {
     let load = sheet::load(sheet, slots, kinds, words);
     print_load(load);
-    print_sum(b" kinds", memory::sum_of_bytes(kinds));
-    print_sum(b" words", memory::sum_of_words(words));
-    print_sum(b" slots", memory::sum_of_words(slots));
+    print_sum_of_bytes(b" kinds", kinds);
+    print_sum_of_words(b" words", words);
+    print_sum_of_words(b" slots", slots);
     let code = sheet::code_of(sheet, load);
-    print_sum(b" code", memory::sum_of_bytes(code));
+    print_sum_of_bytes(b" code", code);
     print(b"\n");
 }
 

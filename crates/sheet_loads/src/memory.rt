@@ -1,4 +1,4 @@
-// The lent memory: junk before a load, and checksums of what stands there afterwards.
+// The lent memory, which holds junk before a load.
 // The junk of a kind.
 fn kind_at(i: usize) -> u8 {
     ((i % 256 * 7 + 1) % 256) as u8
@@ -34,36 +34,4 @@ pub(crate) fn fill_slots(slots: &mut [u32]) {
         slots[i] = word_at(0xBEEF_0000, i);
         i += 1;
     }
-}
-
-// A checksum with one more number.
-fn more(sum: u32, x: u32) -> u32 {
-    ((sum as u64 * 31 + x as u64 + 1) % 0x1_0000_0000) as u32
-}
-
-// A byte as a word.
-fn wide(byte: u8) -> u32 {
-    byte as u32
-}
-
-// The checksum of bytes.
-pub(crate) fn sum_of_bytes(bytes: &[u8]) -> u32 {
-    let mut sum = 0;
-    let mut i = 0;
-    while i < bytes.len() {
-        sum = more(sum, wide(bytes[i]));
-        i += 1;
-    }
-    sum
-}
-
-// The checksum of words.
-pub(crate) fn sum_of_words(words: &[u32]) -> u32 {
-    let mut sum = 0;
-    let mut i = 0;
-    while i < words.len() {
-        sum = more(sum, words[i]);
-        i += 1;
-    }
-    sum
 }

@@ -1,14 +1,7 @@
 // What is printed of a load.
 use printing::print;
-use printing::print_hex;
 use printing::print_number;
 use rules::Load;
-
-// Prints a checksum under a name.
-pub(crate) fn print_sum(name: &[u8], sum: u32) {
-    print(name);
-    print_hex(sum as u64, 8);
-}
 
 // Prints what a load answers.
 pub(crate) fn print_load(load: Load) {

@@ -4,15 +4,10 @@ use printing::print_hex;
 use printing::print_number;
 use rules::Decision;
 use rules::End;
-use rules::State;
 use values::Value;
 
-// A byte, a word, as a number to print.
+// A byte as a number to print.
 fn from_byte(x: u8) -> u64 {
-    x as u64
-}
-
-fn from_word(x: u32) -> u64 {
     x as u64
 }
 
@@ -41,31 +36,6 @@ pub(crate) fn print_kinds(kinds: &[u8]) {
         print_number(from_byte(kinds[i]));
         i += 1;
     }
-    print(b"\n");
-}
-
-// Prints words under a name.
-pub(crate) fn print_words(name: &[u8], words: &[u32]) {
-    print(name);
-    if words.len() == 0 {
-        print(b" -");
-    }
-    let mut i = 0;
-    while i < words.len() {
-        print_hex(from_word(words[i]), 8);
-        i += 1;
-    }
-    print(b"\n");
-}
-
-// Prints a state.
-pub(crate) fn print_state(s: State) {
-    print(b"state");
-    print_number(s.max_stack as u64);
-    print_number(s.max_locals as u64);
-    print_number(s.pc as u64);
-    print_number(s.depth as u64);
-    print_number(s.count);
     print(b"\n");
 }
 

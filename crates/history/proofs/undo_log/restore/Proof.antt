@@ -18,6 +18,9 @@ sub-count c = search needs
 read-entry-requires : tie.Need-read-entry-requires
 read-entry-requires c κs = search needs
 
+cast-many : tie.Need-cast-many
+cast-many c = search needs
+
 moved-requires : tie.Need-moved-requires
 moved-requires c κs = search needs
 
@@ -28,9 +31,6 @@ returns c =
 
 cast-first : tie.Need-cast-first
 cast-first c = search needs
-
-cast-many : tie.Need-cast-many
-cast-many c = search needs
 
 entry-at-requires : tie.Need-entry-at-requires
 entry-at-requires c κs = search needs
@@ -52,14 +52,14 @@ part-write-words-end c = search needs
 
 write-words-requires : tie.Need-write-words-requires
 write-words-requires c κs =
-    let a = c .before .before .before .before .before .before .before .before .before .before .before .args in
-    let pre = c .before .before .before .before .before .before .before .before .before .before .before .pre in
-    let e = c .before .before .before .before .before .before .before .read-entry .result in
+    let a = c .before .before .before .before .before .before .before .before .before .before .args in
+    let pre = c .before .before .before .before .before .before .before .before .before .before .pre in
+    let e = c .before .before .before .before .before .before .read-entry .result in
     let log = now (a .log) in
     let old = c .before .before .entry-at .result + 4 in
-    let first = first-read log (entryAt (a .s .count - 1)) e (c .before .before .before .before .before .before .before .read-entry .ensures) in
-    let many = many-read log (entryAt (a .s .count - 1)) e (c .before .before .before .before .before .before .before .read-entry .ensures) in
-    let there = pre .1 .1 (omega (arith, many, c .before .before .before .before .before .if1 .left)) in
+    let first = first-read log (entryAt (a .s .count - 1)) e (c .before .before .before .before .before .before .read-entry .ensures) in
+    let many = many-read log (entryAt (a .s .count - 1)) e (c .before .before .before .before .before .before .read-entry .ensures) in
+    let there = pre .1 .1 (omega (arith, many, c .before .before .before .before .if1 .left)) in
     let within : e .first + e .many ≤ length (now (a .slots)) = omega (arith, first, many, there) in
     let long : e .many ≤ length (drop old log) = omega (arith, many, pre .0, pre .1 .0, c .before .before .entry-at .ensures, length-drop old log) in
     (within, rw (rest log old) long)
@@ -72,9 +72,9 @@ same-length c = search needs
 
 returns-2 : tie.Need-returns-2
 returns-2 c =
-    let a = c .before .before .before .before .before .before .before .before .before .before .before .before .before .before .before .args in
-    let e = c .before .before .before .before .before .before .before .before .before .before .before .read-entry .result in
-    words-back _ _ e (c .before .before .before .before .before .before .before .before .before .before .before .read-entry .ensures) (a .s) (now (a .slots)) _ (c .moved2 .ensures) _
+    let a = c .before .before .before .before .before .before .before .before .before .before .before .before .before .before .args in
+    let e = c .before .before .before .before .before .before .before .before .before .before .read-entry .result in
+    words-back _ _ e (c .before .before .before .before .before .before .before .before .before .before .read-entry .ensures) (a .s) (now (a .slots)) _ (c .moved2 .ensures) _
     (c .before .before .before .write-words .ensures ∙ ap (λ (x : List ℕ). paste (now (a .slots)) (e .first) x (e .many)) (rest (now (a .log)) (c .before .before .before .before .before .before .entry-at .result + 4) ∙ ap (λ (n : ℕ). drop (n + 4) (now (a .log))) (c .before .before .before .before .before .before .entry-at .ensures)))
 
 pub restore-spec : {M : Type 1} → statement M
@@ -83,10 +83,10 @@ restore-spec =
     (tie.spec
     sub-count
     read-entry-requires
+    cast-many
     moved-requires
     returns
     cast-first
-    cast-many
     entry-at-requires
     add-old
     mul-write-words

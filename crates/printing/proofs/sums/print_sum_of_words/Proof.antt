@@ -1,15 +1,15 @@
--- `sum_of_words` is safe and ends. Assumes nothing.
+-- `print_sum_of_words` is safe and ends. Assumes nothing.
 use Prim.Native.Nat.{_-_}
 use lib.ListN.{length}
 use borrow.Author.Needs.{needs}
-use Rattle.sheet_loads.proofs.memory.sum_of_words.Statement.{statement}
-use Rattle.sheet_loads.proofs.memory.sum_of_words.Tie as tie
+use Rattle.printing.proofs.sums.print_sum_of_words.Statement.{statement}
+use Rattle.printing.proofs.sums.print_sum_of_words.Tie as tie
 
 abbrev Inv-loop : tie.InvT-loop
-Inv-loop words sum₀ i₀ sum i = Unit {0}
+Inv-loop name words sum₀ i₀ sum i = Unit {0}
 
 abbrev μ-loop : tie.MeasureT-loop
-μ-loop words sum₀ i₀ sum i = length words - i
+μ-loop name words sum₀ i₀ sum i = length words - i
 
 loop-holds : tie.Need-loop-holds Inv-loop μ-loop
 loop-holds c = search needs
@@ -32,11 +32,14 @@ loop-less c = search needs
 loop-again : tie.Need-loop-again Inv-loop μ-loop
 loop-again c = search needs
 
+print-sum-requires : tie.Need-print-sum-requires Inv-loop μ-loop
+print-sum-requires c κs = search needs
+
 returns : tie.Need-returns Inv-loop μ-loop
 returns c = search needs
 
-pub sum-of-words-spec : {M : Type 1} → statement M
-sum-of-words-spec =
+pub print-sum-of-words-spec : {M : Type 1} → statement M
+print-sum-of-words-spec =
     tie.close
     (tie.spec
     Inv-loop
@@ -48,4 +51,5 @@ sum-of-words-spec =
     add-i
     loop-less
     loop-again
+    print-sum-requires
     returns)

@@ -1,17 +1,14 @@
--- `print_hex` is safe and ends. Assumes nothing.
+-- `print_digits` is safe and ends. Assumes nothing.
 use Prim.Native.Nat.{_-_}
 use borrow.Author.Needs.{needs}
-use Rattle.printing.proofs.print_hex.Statement.{statement}
-use Rattle.printing.proofs.print_hex.Tie as tie
+use Rattle.printing.proofs.print_digits.Statement.{statement}
+use Rattle.printing.proofs.print_digits.Tie as tie
 
 abbrev Inv-loop : tie.InvT-loop
 Inv-loop n digits i₀ i = Unit {0}
 
 abbrev μ-loop : tie.MeasureT-loop
 μ-loop n digits i₀ i = 16 - i
-
-print-byte-requires : tie.Need-print-byte-requires Inv-loop μ-loop
-print-byte-requires c κs = search needs
 
 loop-holds : tie.Need-loop-holds Inv-loop μ-loop
 loop-holds c = search needs
@@ -34,8 +31,8 @@ shr-digit c = search needs
 digit-requires : tie.Need-digit-requires Inv-loop μ-loop
 digit-requires c κs = search needs
 
-print-byte-requires-2 : tie.Need-print-byte-requires-2 Inv-loop μ-loop
-print-byte-requires-2 c κs = search needs
+print-byte-requires : tie.Need-print-byte-requires Inv-loop μ-loop
+print-byte-requires c κs = search needs
 
 add-i : tie.Need-add-i Inv-loop μ-loop
 add-i c = search needs
@@ -49,13 +46,12 @@ loop-again c = search needs
 returns : tie.Need-returns Inv-loop μ-loop
 returns c = search needs
 
-pub print-hex-spec : {M : Type 1} → statement M
-print-hex-spec =
+pub print-digits-spec : {M : Type 1} → statement M
+print-digits-spec =
     tie.close
     (tie.spec
     Inv-loop
     μ-loop
-    print-byte-requires
     loop-holds
     sub-if1
     mul-digit
@@ -63,7 +59,7 @@ print-hex-spec =
     cast-digit
     shr-digit
     digit-requires
-    print-byte-requires-2
+    print-byte-requires
     add-i
     loop-less
     loop-again

@@ -2,8 +2,8 @@
 use Prim.Native.Nat.{_-_}
 use lib.ListN.{length}
 use borrow.Author.Needs.{needs}
-use Rattle.step_traces.proofs.results.print_words.Statement.{statement}
-use Rattle.step_traces.proofs.results.print_words.Tie as tie
+use Rattle.printing.proofs.lines.print_words.Statement.{statement}
+use Rattle.printing.proofs.lines.print_words.Tie as tie
 
 abbrev Inv-loop : tie.InvT-loop
 Inv-loop name words i₀ t5 i = Unit {0}

@@ -1,0 +1,81 @@
+-- `lend_log` is safe and ends. Assumes nothing.
+use mathlib.Core.Path.{sym}
+use borrow.Table.Elements.{length-take-le}
+use borrow.Author.Needs.{needs}
+use Rattle.press_lists.proofs.lending.lend_log.Statement.{statement}
+use Rattle.press_lists.proofs.lending.lend_log.Tie as tie
+
+nothing-requires : tie.Need-nothing-requires
+nothing-requires c κs = search needs
+
+returns : tie.Need-returns
+returns c = search needs
+
+nothing-requires-2 : tie.Need-nothing-requires-2
+nothing-requires-2 c κs = search needs
+
+returns-2 : tie.Need-returns-2
+returns-2 c = search needs
+
+slice-relend-prefix-lend-input : tie.Need-slice-relend-prefix-lend-input
+slice-relend-prefix-lend-input c = search needs
+
+slice-aggregate-lend-input : tie.Need-slice-aggregate-lend-input
+slice-aggregate-lend-input c =
+    let tests = c .before .before .before .before .before in
+    let at = tests .before .before .before .before .before .before .before .before .before .before in
+    sym (length-take-le (at .args .head .log) (at .args .log .now) (tests .before .if1 .left))
+
+slice-relend-prefix-lend-input-2 : tie.Need-slice-relend-prefix-lend-input-2
+slice-relend-prefix-lend-input-2 c = search needs
+
+slice-aggregate-lend-input-2 : tie.Need-slice-aggregate-lend-input-2
+slice-aggregate-lend-input-2 c =
+    let tests = c .before .before .before .before .before .before in
+    let at = tests .before .before .before .before .before .before .before .before .before .before in
+    sym (length-take-le (at .args .head .answers) (at .args .answers .now) (tests .if2 .left))
+
+lend-input-requires : tie.Need-lend-input-requires
+lend-input-requires c κs = search needs
+
+same-length : tie.Need-same-length
+same-length c = search needs
+
+same-length-2 : tie.Need-same-length-2
+same-length-2 c = search needs
+
+same-length-3 : tie.Need-same-length-3
+same-length-3 c = search needs
+
+same-length-4 : tie.Need-same-length-4
+same-length-4 c = search needs
+
+same-length-5 : tie.Need-same-length-5
+same-length-5 c = search needs
+
+same-length-6 : tie.Need-same-length-6
+same-length-6 c = search needs
+
+returns-3 : tie.Need-returns-3
+returns-3 c = search needs
+
+pub lend-log-spec : {M : Type 1} → statement M
+lend-log-spec =
+    tie.close
+    (tie.spec
+    nothing-requires
+    returns
+    nothing-requires-2
+    returns-2
+    slice-relend-prefix-lend-input
+    slice-aggregate-lend-input
+    slice-relend-prefix-lend-input-2
+    slice-aggregate-lend-input-2
+    lend-input-requires
+    same-length
+    same-length-2
+    same-length-3
+    same-length-4
+    same-length-5
+    same-length-6
+    returns-3)
