@@ -27,6 +27,7 @@ A trace is these lines; words and code are in upper-case hexadecimal, other numb
 The samples are those of methods.py. The traces are worked out here from JVMS 6.5 and the questions of document 01, with the arithmetic of arithmetic.py. Each sample says
 how its walk ends; a walk that ends in another way is an error.
 """
+import copy
 import struct
 
 import arithmetic
@@ -35,6 +36,7 @@ from listings import FORMS, NAMES, SHUFFLES, WIDE_FORMS
 from methods import double, joined, long, samples, single, two_words, word
 
 BUDGET = 60
+HEADER = 'step pc op depth top'
 
 
 # Questions 1 to 5.
@@ -261,17 +263,22 @@ def carry_out(m):
     return None
 
 
-def walk(given):
+def line(steps, m):
+    """The line of an ordinary step that begins here."""
+    top = f'{m.slots[m.max_locals + m.depth - 1]:08X}' if m.depth else '-'
+    return f'{steps} {m.pc} {m.code[m.pc]} {m.depth} {top}'
+
+
+def walk(given, most=BUDGET):
     """The lines of the ordinary steps, how the walk ended, and the machine then."""
-    m, lines = Machine(given), []
-    while len(lines) < BUDGET:
-        pc, depth, slots = m.pc, m.depth, list(m.slots)
+    m, lines, end = Machine(given), [], None
+    while not end and len(lines) < most:
+        before = copy.copy(m)
+        before.slots = list(m.slots)
         end = step(m)
-        if end:
-            return lines, end, m
-        top = f'{slots[m.max_locals + depth - 1]:08X}' if depth else '-'
-        lines.append(f'{len(lines)} {pc} {m.code[pc]} {depth} {top}')
-    return lines, 'stopped', m
+        if not end:
+            lines.append(line(len(lines), before))
+    return lines, end or 'stopped', m
 
 
 def run(given, budget):
@@ -294,7 +301,7 @@ def trace(given):
     lines, end, m = walk(given)
     assert end == given.end, f'{given.name} ends with {end}'
     return [f'method {given.name}', listed('code', given.code, '02X'), listed('kinds', given.kinds, 'd'),
-            listed('words', given.words, '08X'), *Machine(given).shown(), 'step pc op depth top', *lines, end, *m.shown(),
+            listed('words', given.words, '08X'), *Machine(given).shown(), HEADER, *lines, end, *m.shown(),
             *run(given, BUDGET), *run(given, len(lines) // 2), '']
 
 

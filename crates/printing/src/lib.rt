@@ -1,12 +1,17 @@
 // Text on standard output, piece by piece, for the programs.
 mod lines;
 mod sums;
+mod walks;
 
 use libc::STDOUT_FILENO;
 pub use lines::print_state;
 pub use lines::print_words;
 pub use sums::print_sum_of_bytes;
 pub use sums::print_sum_of_words;
+pub use walks::print_decision;
+pub use walks::print_end;
+pub use walks::print_header;
+pub use walks::print_step;
 
 // Prints some bytes.
 pub fn print(text: &[u8]) {

@@ -1,5 +1,5 @@
 -- What an accepted load leaves: questions 1 to 3 pass, the frame is the arguments and then zeros, and the slots beyond it are as they were. Assumes nothing.
-use Prim.Native.Nat.{ℕ, zero, suc, _+_, _-_, _<_}
+use Prim.Native.Nat.{ℕ, zero, suc, _+_, _-_, _≤_, _<_}
 use mathlib.Core.Path.{_≡_, refl, sym, ap, _∙_}
 use mathlib.Core.Bool.{Bool, true, false, cond}
 use mathlib.Core.List.{List}
@@ -11,14 +11,14 @@ use borrow.Author.Tests.{leb-true, le-leb, eqb-true}
 use Rattle.rules.specs.declared.Reading.{Reading}
 use Rattle.rules.specs.declared.State.{State}
 use Rattle.rules.specs.declared.Load.the-variants as Load
-use Rattle.rules.specs.Asked.{passed}
+use Rattle.rules.specs.Asked.{Asked, passed, refused, _>>=_, _>>_}
 use Rattle.rules.specs.Fetch.{u8, u32}
 use Rattle.rules.specs.Questions.{lent, frameAsked}
 use Rattle.rules.specs.Step.{frame}
-use Rattle.rules.specs.Sheet.{recordEnd, bodyAt, poolIndex, isWide, sheetAsked, memoryAsked, Pool, withWords, withValue, poolFrom, loadedPool, argumentsFrom, loadedFrame, loadedSlots, loadedState, codeOf}
+use Rattle.rules.specs.Sheet.{recordEnd, bodyAt, poolIndex, isWide, sheetAsked, memoryAsked, Pool, withWords, withValue, poolFrom, loadedPool, argumentsFrom, loadedFrame, loadedSlots, loadedState, loadBy, loadOf, codeOf}
 use Rattle.rules.proofs.Asked.{first-passed, last-passed}
 use Rattle.rules.proofs.Questions.{Framed, frame-passed}
-use Rattle.rules.proofs.Sheet.{Within, sheet-within}
+use Rattle.rules.proofs.Sheet.{Within, sheet-within, code-at-12}
 
 -- ---- lengths
 
@@ -114,3 +114,22 @@ module _ (sheet slots kinds words : List ℕ) (bytes : (i : ℕ) → u8 sheet i 
 
   pub loaded-passes : frameAsked (lent code (loadedPool sheet p kinds words .kinds) (loadedPool sheet p kinds words .words)) state (loadedSlots sheet p slots) ≡ passed tt
   loaded-passes = frame-passed (lent code (loadedPool sheet p kinds words .kinds) (loadedPool sheet p kinds words .words)) state (loadedSlots sheet p slots) loaded-framed
+
+-- ---- where an accepted load says that the code lies
+
+module _ (sheet slots kinds words : List ℕ) (bytes : (i : ℕ) → u8 sheet i < 256) (s : State) (at n : ℕ) where
+  by-reading : (p : Reading) → sheetAsked sheet ≡ passed p → (x : Asked (Unit {0})) → loadBy sheet slots kinds words (x >> passed p) .load ≡ Load.Accepted s at n → (at ≡ 12) × (n ≤ 65535)
+  unfolding _>>_
+  by-reading p q (passed t) h =
+      let e : p .code ≡ at = cc in
+      let f : p .«code_length» ≡ n = cc in
+      (sym e ∙ code-at-12 sheet p q, omega (arith, f, sheet-within sheet p q .0 .short-code bytes))
+  by-reading p q (refused k) h = let z : _≡_ {A = ℕ} 0 1 = cc in absurd (omega arith)
+
+  pub accepted-where : loadOf sheet slots kinds words .load ≡ Load.Accepted s at n → (at ≡ 12) × (n ≤ 65535)
+  unfolding loadOf _>>=_
+  accepted-where h = go (sheetAsked sheet) refl h
+    where
+      go : (x : Asked Reading) → sheetAsked sheet ≡ x → loadBy sheet slots kinds words (x >>= λ p. memoryAsked p slots kinds words >> passed p) .load ≡ Load.Accepted s at n → (at ≡ 12) × (n ≤ 65535)
+      go (passed p) q k = by-reading p q (memoryAsked p slots kinds words) k
+      go (refused m) q k = let z : _≡_ {A = ℕ} 0 1 = cc in absurd (omega arith)

@@ -256,6 +256,62 @@ module _ (sheet : List ℕ) where
         few-arguments = λ k. absurd (omega arith);
       }
 
+-- ---- the code begins at offset 12: it follows LM, which stands first and has four bytes
+
+record Placed (at : ℕ) (p : Reading) : Type 0 where
+  first : p .last ≡ 0 → at ≡ 0
+  second : p .last ≡ 1 → at ≡ 8
+  code-at : 2 ≤ p .last → p .code ≡ 12
+
+module _ (sheet : List ℕ) where
+  After : ℕ → Reading → Type 0
+  After at p = Placed (recordEnd sheet at) p
+
+  contents-placed : (at : ℕ) (p : Reading) → Placed at p → (m : Mark) → follows m (p .last) ≡ true → rightLength m (bodyLength sheet at) ≡ true → Holds (After at) (contentsAsked sheet at p m)
+  unfolding Holds After contentsAsked
+  contents-placed at p h LM f r = record {
+    first = λ e. absurd (omega arith);
+    second = λ e. omega (arith, h .first (eqb-true (p .last) 0 f), eqb-true (bodyLength sheet at) 4 r);
+    code-at = λ k. absurd (omega arith);
+  }
+  contents-placed at p h CD f r = record {
+    first = λ e. absurd (omega arith);
+    second = λ e. absurd (omega arith);
+    code-at = λ k. omega (arith, h .second (eqb-true (p .last) 1 f));
+  }
+  contents-placed at p h KI f r = asked (After at) _ 25 _ (λ _. asked (After at) _ 25 _ (λ _. asked (After at) _ 25 _ (λ _. record {
+    first = λ e. absurd (omega arith);
+    second = λ e. absurd (omega arith);
+    code-at = λ k. h .code-at (after-code (p .last) f);
+  })))
+  contents-placed at p h AR f r = asked (After at) _ 27 _ (λ _. record {
+    first = λ e. absurd (omega arith);
+    second = λ e. absurd (omega arith);
+    code-at = λ k. h .code-at (after-code (p .last) f);
+  })
+
+  record-placed : (at : ℕ) (p : Reading) → Placed at p → Holds (After at) (recordAsked sheet at p)
+  unfolding recordAsked
+  record-placed at p h = asked (After at) _ 21 _ (λ _. asked (After at) _ 21 _ (λ _. bound (After at) (knownMark (u16 sheet at)) _ (λ m e.
+      asked (After at) _ 23 _ (λ f. asked (After at) _ 24 _ (λ r. contents-placed at p h m f r)))))
+
+  At12 : Reading → Type 0
+  At12 p = p .code ≡ 12
+
+  end-placed : (at : ℕ) (p : Reading) → Placed at p → Holds At12 (endAsked p)
+  unfolding Holds At12
+  end-placed at p h = asked At12 _ 23 _ (λ e. h .code-at (omega (arith, eqb-true (p .last) 4 e)))
+
+  read-placed : (n at : ℕ) (p : Reading) → Placed at p → Holds At12 (readFrom n sheet at p)
+  unfolding readFrom After
+  read-placed zero at p h = end-placed at p h
+  read-placed (suc n) at p h =
+      either At12 (leb (length sheet) at) _ _ (end-placed at p h) (bound At12 (recordAsked sheet at p) _ (λ q e. read-placed n (recordEnd sheet at) q (held (After at) (recordAsked sheet at p) q (record-placed at p h) e)))
+
+  pub code-at-12 : (p : Reading) → sheetAsked sheet ≡ passed p → p .code ≡ 12
+  unfolding sheetAsked At12
+  code-at-12 p e = held At12 (sheetAsked sheet) p (read-placed (length sheet) 0 unread (record { first = λ e. refl; second = λ e. absurd (omega arith); code-at = λ k. absurd (omega arith) })) e
+
 -- ---- the load by the answers to its questions
 
 module _ (sheet slots kinds words : List ℕ) where

@@ -27,7 +27,7 @@ fn unread() -> Reading
 }
 
 // All records, to the end of the bytes: what was read, or the first refusal.
-pub(crate) fn check(sheet: &[u8]) -> Record
+pub fn check(sheet: &[u8]) -> Record
     ensures { λ r. ⌜ r ≡ recordAnswer (sheetAsked (now (sheet .entry))) ⌝ }
 {
     let mut p = unread();

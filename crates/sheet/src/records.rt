@@ -16,7 +16,7 @@ ghost use Rattle.rules.specs.Sheet.{bodyLength, lastIndex, withLimits, withCode
 ghost use Rattle.sheet.specs.Records.{recordAnswer};
 
 // What has been read with a record, or the number of its refusal.
-pub(crate) enum Record {
+pub enum Record {
     Read(Reading),
     Refused(u32),
 }

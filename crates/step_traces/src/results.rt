@@ -1,10 +1,7 @@
-// What is printed of a sample, a step and a run.
+// What is printed of a sample.
 use printing::print;
 use printing::print_hex;
 use printing::print_number;
-use rules::Decision;
-use rules::End;
-use values::Value;
 
 // A byte as a number to print.
 fn from_byte(x: u8) -> u64 {
@@ -37,57 +34,4 @@ pub(crate) fn print_kinds(kinds: &[u8]) {
         i += 1;
     }
     print(b"\n");
-}
-
-// Prints what a method gives back.
-fn print_value(v: Value) {
-    match v {
-        Value::Void => print(b"return void"),
-        Value::Int(word) => {
-            print(b"return int");
-            print_hex(word as u64, 8);
-        }
-        Value::Float(word) => {
-            print(b"return float");
-            print_hex(word as u64, 8);
-        }
-        Value::Reference(word) => {
-            print(b"return ref");
-            print_hex(word as u64, 8);
-        }
-        Value::Long(bits) => {
-            print(b"return long");
-            print_hex(bits, 16);
-        }
-        Value::Double(bits) => {
-            print(b"return double");
-            print_hex(bits, 16);
-        }
-    }
-}
-
-// Prints a refusal.
-fn print_refusal(n: u32) {
-    print(b"refused");
-    print_number(n as u64);
-}
-
-// Prints what a step came to that was not ordinary.
-pub(crate) fn print_decision(d: Decision) {
-    match d {
-        Decision::Ordinary(_) => print(b"ordinary"),
-        Decision::Return(v) => print_value(v),
-        Decision::Throw => print(b"throw arithmetic"),
-        Decision::Refused(n) => print_refusal(n),
-    }
-}
-
-// Prints what ended a run.
-pub(crate) fn print_end(end: End) {
-    match end {
-        End::Stopped => print(b"stopped"),
-        End::Return(v) => print_value(v),
-        End::Throw => print(b"throw arithmetic"),
-        End::Refused(n) => print_refusal(n),
-    }
 }

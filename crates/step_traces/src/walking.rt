@@ -1,16 +1,17 @@
 // A sample walked step by step, and run.
 use crate::fields::Sample;
 use crate::results::print_code;
-use crate::results::print_decision;
-use crate::results::print_end;
 use crate::results::print_kinds;
+use interpreter::decide;
 use interpreter::run;
 use interpreter::step;
-use libc::STDOUT_FILENO;
 use printing::print;
-use printing::print_hex;
+use printing::print_decision;
+use printing::print_end;
+use printing::print_header;
 use printing::print_number;
 use printing::print_state;
+use printing::print_step;
 use printing::print_words;
 use rules::Decision;
 use rules::State;
@@ -18,43 +19,6 @@ ghost use Prim.Native.Nat.{_≤_};
 
 // A walk's and a run's limit of steps.
 const BUDGET: u64 = 60;
-
-// The word on top of the stack, if it has one in what is lent.
-enum Top {
-    Word(u32),
-    Nothing,
-}
-
-// The word on top before a step.
-fn top_of(slots: &[u32], s: State) -> Top {
-    let place = s.max_locals as usize + s.depth as usize;
-    if s.depth == 0 {
-        return Top::Nothing;
-    }
-    if slots.len() < place {
-        return Top::Nothing;
-    }
-    Top::Word(slots[place - 1])
-}
-
-// The opcode at an offset, and 0 past the end.
-fn opcode_at(code: &[u8], pc: u32) -> u8 {
-    let at = pc as usize;
-    if at < code.len() { code[at] } else { 0 }
-}
-
-// Prints the line of an ordinary step: the steps before it, and where it began.
-fn print_step(steps: u64, s: State, opcode: u8, top: Top) {
-    io::print_decimal(STDOUT_FILENO, steps);
-    print_number(s.pc as u64);
-    print_number(opcode as u64);
-    print_number(s.depth as u64);
-    match top {
-        Top::Word(word) => print_hex(word as u64, 8),
-        Top::Nothing => print(b" -"),
-    }
-    print(b"\n");
-}
 
 // Ends a line, and prints the slots and the state after it.
 fn print_after(slots: &[u32], s: State) {
@@ -67,19 +31,18 @@ fn print_after(slots: &[u32], s: State) {
 fn walk(code: &[u8], kinds: &[u8], words: &[u32], slots: &mut [u32], s: State) -> u64 {
     print_words(b"slots", slots);
     print_state(s);
-    print(b"step pc op depth top\n");
+    print_header();
     let mut t = s;
     let mut steps = 0;
     while steps < BUDGET {
-        let top = top_of(slots, t);
-        let stepped = step(code, kinds, words, slots, t);
-        let decision = stepped.decision;
+        let decision = decide(code, kinds, words, slots, t);
         let Decision::Ordinary(_) = decision else {
             print_decision(decision);
             print_after(slots, t);
             return steps;
         };
-        print_step(steps, t, opcode_at(code, t.pc), top);
+        print_step(steps, code, slots, t);
+        let stepped = step(code, kinds, words, slots, t);
         t = stepped.state;
         steps += 1;
     }

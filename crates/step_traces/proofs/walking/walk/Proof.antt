@@ -7,10 +7,10 @@ use Rattle.step_traces.proofs.walking.walk.Statement.{statement}
 use Rattle.step_traces.proofs.walking.walk.Tie as tie
 
 abbrev Inv-loop : tie.InvT-loop
-Inv-loop code kinds words slots₀ t₀ steps₀ t13 slots t steps = length slots ≡ length slots₀
+Inv-loop code kinds words slots₀ t₀ steps₀ t11 slots t steps = length slots ≡ length slots₀
 
 abbrev μ-loop : tie.MeasureT-loop
-μ-loop code kinds words slots₀ t₀ steps₀ t13 slots t steps = 60 - steps
+μ-loop code kinds words slots₀ t₀ steps₀ t11 slots t steps = 60 - steps
 
 slice-aggregate-print-words : tie.Need-slice-aggregate-print-words Inv-loop μ-loop
 slice-aggregate-print-words c = search needs
@@ -21,20 +21,14 @@ print-words-requires c κs = search needs
 print-state-requires : tie.Need-print-state-requires Inv-loop μ-loop
 print-state-requires c κs = search needs
 
-slice-aggregate-print : tie.Need-slice-aggregate-print Inv-loop μ-loop
-slice-aggregate-print c = search needs
-
-print-requires : tie.Need-print-requires Inv-loop μ-loop
-print-requires c κs = search needs
+print-header-requires : tie.Need-print-header-requires Inv-loop μ-loop
+print-header-requires c κs = search needs
 
 loop-holds : tie.Need-loop-holds Inv-loop μ-loop
 loop-holds c = search needs
 
-top-of-requires : tie.Need-top-of-requires Inv-loop μ-loop
-top-of-requires c κs = search needs
-
-step-requires : tie.Need-step-requires Inv-loop μ-loop
-step-requires c κs = search needs
+decide-requires : tie.Need-decide-requires Inv-loop μ-loop
+decide-requires c κs = search needs
 
 enum-told : tie.Need-enum-told Inv-loop μ-loop
 enum-told c = search needs
@@ -51,11 +45,11 @@ same-length c = search needs
 returns : tie.Need-returns Inv-loop μ-loop
 returns c = search needs
 
-opcode-at-requires : tie.Need-opcode-at-requires Inv-loop μ-loop
-opcode-at-requires c κs = search needs
-
 print-step-requires : tie.Need-print-step-requires Inv-loop μ-loop
 print-step-requires c κs = search needs
+
+step-requires : tie.Need-step-requires Inv-loop μ-loop
+step-requires c κs = search needs
 
 add-steps : tie.Need-add-steps Inv-loop μ-loop
 add-steps c = search needs
@@ -66,11 +60,11 @@ loop-less c = search needs
 loop-again : tie.Need-loop-again Inv-loop μ-loop
 loop-again c = search needs
 
-slice-aggregate-print-2 : tie.Need-slice-aggregate-print-2 Inv-loop μ-loop
-slice-aggregate-print-2 c = search needs
+slice-aggregate-print : tie.Need-slice-aggregate-print Inv-loop μ-loop
+slice-aggregate-print c = search needs
 
-print-requires-2 : tie.Need-print-requires-2 Inv-loop μ-loop
-print-requires-2 c κs = search needs
+print-requires : tie.Need-print-requires Inv-loop μ-loop
+print-requires c κs = search needs
 
 print-after-requires-2 : tie.Need-print-after-requires-2 Inv-loop μ-loop
 print-after-requires-2 c κs = search needs
@@ -90,23 +84,21 @@ walk-spec =
     slice-aggregate-print-words
     print-words-requires
     print-state-requires
-    slice-aggregate-print
-    print-requires
+    print-header-requires
     loop-holds
-    top-of-requires
-    step-requires
+    decide-requires
     enum-told
     print-decision-requires
     print-after-requires
     same-length
     returns
-    opcode-at-requires
     print-step-requires
+    step-requires
     add-steps
     loop-less
     loop-again
-    slice-aggregate-print-2
-    print-requires-2
+    slice-aggregate-print
+    print-requires
     print-after-requires-2
     same-length-2
     returns-2)

@@ -1,0 +1,78 @@
+-- What is asked of the lent words before a call, and a call by the answers. Assumes nothing.
+use Prim.Native.Nat.{ℕ, _≤_, _<_}
+use mathlib.Core.Path.{_≡_, refl}
+use mathlib.Core.Bool.{Bool, true, false}
+use mathlib.Core.List.{List}
+use native.Mathlib.Omega.{arith}
+use lib.Dec.{leb}
+use lib.ListN.{length, getD}
+use borrow.Author.Tests.{leb-true, lt-leb, le-leb}
+use Rattle.rules.specs.Asked.{Asked, passed, refused, _else_, _>>_, isPassed}
+use Rattle.rules.specs.History.{Out}
+use Rattle.rules.proofs.Asked.{first-passed, last-passed, last-asked, is-passed}
+use Rattle.workbook.specs.StateWords.{lengthsAsked, sizesAsked}
+use Rattle.workbook.specs.Calls.{called, unchanged, callBy}
+
+-- two questions whose no is 1
+two-no : (a b : Bool) → isPassed ((a else 1) >> (b else 1)) ≡ false → ((a else 1) >> (b else 1)) ≡ refused 1
+unfolding _else_ _>>_
+two-no false b e = refl
+two-no true false e = refl
+two-no true true e = let z : _≡_ {A = ℕ} 0 1 = cc in absurd (omega arith)
+
+-- ---- the lengths
+
+module _ (state answer : List ℕ) (n : ℕ) where
+  pub short-state : length state < 6 → false ≡ isPassed (lengthsAsked state answer n)
+  unfolding lengthsAsked _else_ _>>_
+  short-state h = simp (lt-leb _ _ h)
+
+  pub long-state : 6 ≤ length state → leb n (length answer) ≡ isPassed (lengthsAsked state answer n)
+  unfolding lengthsAsked _else_ _>>_
+  long-state h = simp (le-leb _ _ h) (last-asked _ 1)
+
+  pub lengths-no : isPassed (lengthsAsked state answer n) ≡ false → lengthsAsked state answer n ≡ refused 1
+  unfolding lengthsAsked
+  lengths-no e = two-no _ _ e
+
+  pub lengths-yes : isPassed (lengthsAsked state answer n) ≡ true → (6 ≤ length state) × (n ≤ length answer)
+  unfolding lengthsAsked
+  lengths-yes e =
+      let a = first-passed _ 1 _ (is-passed (lengthsAsked state answer n) e) in
+      (leb-true _ _ (a .0), leb-true _ _ (last-passed _ 1 (a .1)))
+
+-- ---- the sizes
+
+module _ (ws : List ℕ) where
+  pub stack-large : 65535 < getD ws 0 0 → false ≡ isPassed (sizesAsked ws)
+  unfolding sizesAsked _else_ _>>_
+  stack-large h = simp (lt-leb _ _ h)
+
+  pub stack-fits : getD ws 0 0 ≤ 65535 → leb (getD ws 1 0) 65535 ≡ isPassed (sizesAsked ws)
+  unfolding sizesAsked _else_ _>>_
+  stack-fits h = simp (le-leb _ _ h) (last-asked _ 1)
+
+  pub sizes-no : isPassed (sizesAsked ws) ≡ false → sizesAsked ws ≡ refused 1
+  unfolding sizesAsked
+  sizes-no e = two-no _ _ e
+
+  pub sizes-yes : isPassed (sizesAsked ws) ≡ true → (getD ws 0 0 ≤ 65535) × (getD ws 1 0 ≤ 65535)
+  unfolding sizesAsked
+  sizes-yes e =
+      let a = first-passed _ 1 _ (is-passed (sizesAsked ws) e) in
+      (leb-true _ _ (a .0), leb-true _ _ (last-passed _ 1 (a .1)))
+
+-- ---- a call
+
+module _ (slots log state answer : List ℕ) (o : Out) (x y : Asked (Unit {0})) where
+  pub first-no : x ≡ refused 1 → unchanged slots log state answer 1 ≡ callBy slots log state answer o (x >> y)
+  unfolding _>>_
+  first-no e = rw e
+
+  pub second-no : x ≡ passed tt → y ≡ refused 1 → unchanged slots log state answer 1 ≡ callBy slots log state answer o (x >> y)
+  unfolding _>>_
+  second-no e f = rw (e, f)
+
+  pub both-yes : x ≡ passed tt → y ≡ passed tt → called state answer o ≡ callBy slots log state answer o (x >> y)
+  unfolding _>>_
+  both-yes e f = rw (e, f)

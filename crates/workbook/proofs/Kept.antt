@@ -1,0 +1,30 @@
+-- A state that is read and written back leaves its words; so a run that questions 1 to 3 refuse writes its four answer words alone. Assumes nothing.
+use Prim.Native.Nat.{ℕ, _+_, _*_, _/_, _%_, _^_, _≤_, _<_}
+use mathlib.Core.Path.{_≡_, ap, _∙_}
+use mathlib.Core.List.{List, [], _∷_}
+use native.Mathlib.Omega.{arith}
+use lib.ListN.{length, getD}
+use Rattle.rules.specs.Asked.{passed, refused}
+use Rattle.rules.specs.Questions.{Lent, frameAsked}
+use Rattle.rules.specs.Run.{runOf}
+use Rattle.workbook.specs.StateWords.{stateIn, withState, lengthsAsked, sizesAsked}
+use Rattle.workbook.specs.Calls.{withSteps, runCall}
+
+pub words-kept : (ws : List ℕ) → 6 ≤ length ws → getD ws 4 0 < 2 ^ 32 → withState ws (stateIn ws) ≡ ws
+words-kept [] h f = absurd (omega arith)
+words-kept (a ∷ []) h f = absurd (omega arith)
+words-kept (a ∷ b ∷ []) h f = absurd (omega arith)
+words-kept (a ∷ b ∷ c ∷ []) h f = absurd (omega arith)
+words-kept (a ∷ b ∷ c ∷ d ∷ []) h f = absurd (omega arith)
+words-kept (a ∷ b ∷ c ∷ d ∷ e ∷ []) h f = absurd (omega arith)
+words-kept (a ∷ b ∷ c ∷ d ∷ e ∷ g ∷ rest) h f =
+    let low : (e + g * 2 ^ 32) % 2 ^ 32 ≡ e = omega (arith, f) in
+    let high : (e + g * 2 ^ 32) / 2 ^ 32 ≡ g = omega (arith, f) in
+    rw (low, high)
+
+module _ (l : Lent) (slots state answer : List ℕ) (budget : ℕ) (six : 6 ≤ length state) (fits : getD state 4 0 < 2 ^ 32) where
+  pub refused-run : (k : ℕ) → lengthsAsked state answer 4 ≡ passed tt → sizesAsked state ≡ passed tt → frameAsked l (stateIn state) slots ≡ refused k
+      → runCall l slots state answer budget ≡ record { number = k; slots = slots; log = []; state = state; answer = withSteps answer 0 0 0 }
+  unfolding runCall runOf
+  refused-run k lengths sizes e =
+      rw (lengths, sizes, e) (ap (λ (ws : List ℕ). record { number = k; slots = slots; log = []; state = ws; answer = withSteps answer 0 0 0 }) (words-kept state six fits))

@@ -1,0 +1,6 @@
+mod Asking
+mod Kept
+mod LoadedWords
+mod Made
+mod ManyPresses
+mod Others

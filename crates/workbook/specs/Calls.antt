@@ -1,0 +1,168 @@
+-- The exported functions, each by the number that comes back and by every lent word that it leaves. Assumes nothing.
+use Prim.Native.Nat.{ℕ, _*_, _/_, _%_, _^_}
+use mathlib.Core.List.{List, [], _∷_}
+use lib.ListN.{length}
+use lib.Seq.{paste}
+use Rattle.values.specs.declared.Value.{Value}
+use Rattle.rules.specs.declared.State.{State}
+use Rattle.rules.specs.declared.Decision.{Decision}
+use Rattle.rules.specs.declared.Decision.the-variants as Decision
+use Rattle.rules.specs.declared.Pressed.{Pressed}
+use Rattle.rules.specs.declared.Pressed.the-variants.{Granted, Return, Throw, Refused}
+use Rattle.rules.specs.declared.Reading.{Reading}
+use Rattle.rules.specs.declared.Load.{Load}
+use Rattle.rules.specs.declared.Load.the-variants as Load
+use Rattle.rules.specs.Asked.{Asked, passed, refused, _else_, _>>_, _≤ⁿ_}
+use Rattle.rules.specs.Questions.{Lent}
+use Rattle.rules.specs.Step.{Stepped, stepOf}
+use Rattle.rules.specs.Run.{Ran, runOf}
+use Rattle.rules.specs.Sheet.{sheetAsked, Loaded, loadOf}
+use Rattle.rules.specs.History.{Out, forwardOf, backOf}
+use Rattle.rules.specs.Answers.{valueAnswer, endAnswer, pressedAnswer}
+use Rattle.rules.specs.Presses.{answersWords, answersAsked, Replayed, replayOf}
+use Rattle.workbook.specs.StateWords.{stateIn, withState, lengthsAsked, sizesAsked}
+
+-- ---- step, forward and back
+
+pub record Called : Type 0 where
+  pub number : ℕ
+  pub slots : List ℕ
+  pub log : List ℕ
+  pub state : List ℕ
+  pub answer : List ℕ
+
+-- the state is written where the press is granted
+abbrev pub stateAfter : List ℕ → State → Pressed → List ℕ
+stateAfter ws s Granted = withState ws s
+stateAfter ws s (Return v) = ws
+stateAfter ws s Throw = ws
+stateAfter ws s (Refused n) = ws
+
+-- answer words 0 and 1 are written where there is a return
+abbrev pub withValue : List ℕ → Value → List ℕ
+withValue answer v = paste answer 0 (valueAnswer v .low ∷ valueAnswer v .high ∷ []) 2
+
+abbrev pub answerAfter : List ℕ → Pressed → List ℕ
+answerAfter answer Granted = answer
+answerAfter answer (Return v) = withValue answer v
+answerAfter answer Throw = answer
+answerAfter answer (Refused n) = answer
+
+abbrev pub called : List ℕ → List ℕ → Out → Called
+called state answer o =
+    record { number = pressedAnswer (o .answer) .number; slots = o .slots; log = o .log; state = stateAfter state (o .state) (o .answer); answer = answerAfter answer (o .answer) }
+
+abbrev pub unchanged : List ℕ → List ℕ → List ℕ → List ℕ → ℕ → Called
+unchanged slots log state answer n = record { number = n; slots = slots; log = log; state = state; answer = answer }
+
+-- a step is a press whose log stays
+abbrev pub pressedBy : Decision → Pressed
+pressedBy (Decision.Ordinary u) = Granted
+pressedBy (Decision.Return v) = Return v
+pressedBy Decision.Throw = Throw
+pressedBy (Decision.Refused n) = Refused n
+
+abbrev pub stepOut : Stepped → Out
+stepOut r = record { state = r .state; answer = pressedBy (r .decision); slots = r .slots; log = [] }
+
+abbrev pub callBy : List ℕ → List ℕ → List ℕ → List ℕ → Out → Asked (Unit {0}) → Called
+callBy slots log state answer o (passed t) = called state answer o
+callBy slots log state answer o (refused n) = unchanged slots log state answer n
+
+unfoldable pub stepCall : Lent → List ℕ → List ℕ → List ℕ → Called
+stepCall l slots state answer = callBy slots [] state answer (stepOut (stepOf l (stateIn state) slots)) (do
+  lengthsAsked state answer 4
+  sizesAsked state)
+
+unfoldable pub forwardCall : Lent → List ℕ → List ℕ → List ℕ → List ℕ → Called
+forwardCall l slots log state answer = callBy slots log state answer (forwardOf l (stateIn state) slots log) (do
+  lengthsAsked state answer 4
+  sizesAsked state)
+
+-- back has no answer words
+abbrev pub backBy : List ℕ → List ℕ → List ℕ → Out → Asked (Unit {0}) → Called
+backBy slots log state o (passed t) =
+    record { number = pressedAnswer (o .answer) .number; slots = o .slots; log = o .log; state = stateAfter state (o .state) (o .answer); answer = [] }
+backBy slots log state o (refused n) = unchanged slots log state [] n
+
+unfoldable pub backCall : Lent → List ℕ → List ℕ → List ℕ → Called
+backCall l slots log state = backBy slots log state (backOf l (stateIn state) slots log) (do
+  6 ≤ⁿ length state else 1
+  sizesAsked state)
+
+-- ---- run
+
+-- the value's two words, then the steps, low word first
+abbrev pub withSteps : List ℕ → ℕ → ℕ → ℕ → List ℕ
+withSteps answer low high steps = paste answer 0 (low ∷ high ∷ steps % 2 ^ 32 ∷ steps / 2 ^ 32 ∷ []) 4
+
+abbrev pub ranCall : List ℕ → List ℕ → Ran → Called
+ranCall state answer r =
+    let e = endAnswer (r .end) in
+    record { number = e .number; slots = r .slots; log = []; state = withState state (r .state); answer = withSteps answer (e .low) (e .high) (r .steps) }
+
+-- sizes that no state has are question 1's no: the four answer words are 0
+abbrev pub runBy : List ℕ → List ℕ → List ℕ → Ran → Asked (Unit {0}) → Called
+runBy slots state answer r (passed t) = ranCall state answer r
+runBy slots state answer r (refused n) = unchanged slots [] state (withSteps answer 0 0 0) n
+
+abbrev pub runFor : List ℕ → List ℕ → List ℕ → Ran → Asked (Unit {0}) → Called
+runFor slots state answer r (passed t) = runBy slots state answer r (sizesAsked state)
+runFor slots state answer r (refused n) = unchanged slots [] state answer n
+
+unfoldable pub runCall : Lent → List ℕ → List ℕ → List ℕ → ℕ → Called
+runCall l slots state answer budget = runFor slots state answer (runOf l budget (stateIn state) slots) (lengthsAsked state answer 4)
+
+-- ---- the list of presses
+
+-- every press of a list is refused with 1
+unfoldable pub allRefused : List ℕ → List Pressed
+allRefused [] = []
+allRefused (b ∷ bs) = Refused 1 ∷ allRefused bs
+
+abbrev pub pressesMade : List ℕ → Replayed → Called
+pressesMade state r = record { number = 0; slots = r .slots; log = r .log; state = withState state (r .state); answer = r .answers }
+
+-- sizes that no state has are question 1's no, at each press
+abbrev pub pressesBy : List ℕ → List ℕ → List ℕ → List ℕ → List ℕ → Replayed → Asked (Unit {0}) → Called
+pressesBy bytes slots log state answers r (passed t) = pressesMade state r
+pressesBy bytes slots log state answers r (refused n) = unchanged slots log state (paste answers 0 (answersWords (allRefused bytes)) (3 * length bytes)) 0
+
+abbrev pub pressesFor : List ℕ → List ℕ → List ℕ → List ℕ → List ℕ → Replayed → Asked (Unit {0}) → Called
+pressesFor bytes slots log state answers r (passed t) = pressesBy bytes slots log state answers r (sizesAsked state)
+pressesFor bytes slots log state answers r (refused n) = unchanged slots log state answers n
+
+unfoldable pub pressesCall : Lent → List ℕ → List ℕ → List ℕ → List ℕ → List ℕ → Called
+pressesCall l slots log state bytes answers =
+    pressesFor bytes slots log state answers (replayOf l bytes (stateIn state) slots log answers) (do
+      answersAsked (length bytes) (length answers)
+      6 ≤ⁿ length state else 1)
+
+-- ---- load
+
+pub record LoadCalled : Type 0 where
+  pub number : ℕ
+  pub slots : List ℕ
+  pub kinds : List ℕ
+  pub words : List ℕ
+  pub state : List ℕ
+  pub answer : List ℕ
+
+-- an accepted load hands back where the code begins and how long it is
+abbrev pub loadBy : List ℕ → List ℕ → Loaded → Load → LoadCalled
+loadBy state answer m (Load.Accepted s at n) =
+    record { number = 0; slots = m .slots; kinds = m .kinds; words = m .words; state = withState state s; answer = paste answer 0 (at ∷ n ∷ []) 2 }
+loadBy state answer m (Load.Refused k) = record { number = k; slots = m .slots; kinds = m .kinds; words = m .words; state = state; answer = answer }
+
+-- too few state or answer words belong to question 26: the sheet's own numbers come first
+abbrev pub shortNumber : Asked Reading → ℕ
+shortNumber (passed p) = 26
+shortNumber (refused n) = n
+
+abbrev pub loadFor : List ℕ → List ℕ → List ℕ → List ℕ → List ℕ → List ℕ → Asked (Unit {0}) → LoadCalled
+loadFor sheet slots kinds words state answer (passed t) = let m = loadOf sheet slots kinds words in loadBy state answer m (m .load)
+loadFor sheet slots kinds words state answer (refused n) =
+    record { number = shortNumber (sheetAsked sheet); slots = slots; kinds = kinds; words = words; state = state; answer = answer }
+
+unfoldable pub loadCall : List ℕ → List ℕ → List ℕ → List ℕ → List ℕ → List ℕ → LoadCalled
+loadCall sheet slots kinds words state answer = loadFor sheet slots kinds words state answer (lengthsAsked state answer 4)

@@ -1,0 +1,2 @@
+pub mod StateWords
+pub mod Calls

@@ -1,0 +1,87 @@
+// A step without history, and the presses of forward and back.
+use crate::leaving::leave;
+use crate::leaving::leave_value;
+use crate::leaving::pressed_by;
+use crate::state_words::are_lent;
+use crate::state_words::read_state;
+use crate::state_words::sizes_fit;
+use history::back;
+use history::forward;
+use interpreter::step;
+ghost use mathlib.Core.Path.{_≡_};
+ghost use mathlib.Core.List.{[]};
+ghost use Rattle.rules.specs.Questions.{lent};
+ghost use Rattle.workbook.specs.Calls.{stepCall, forwardCall, backCall};
+
+// A step without history.
+#[no_mangle]
+pub extern "C" fn workbook_step(
+    code: &[u8],
+    kinds: &[u8],
+    words: &[u32],
+    slots: &mut [u32],
+    state: &mut [u32],
+    answer: &mut [u32],
+) -> u32
+    ensures { λ r. ⌜ record { number = r; slots = now (slots .exit); log = []; state = now (state .exit); answer = now (answer .exit) } ≡ stepCall (lent (now (code .entry)) (now (kinds .entry)) (now (words .entry))) (now (slots .entry)) (now (state .entry)) (now (answer .entry)) ⌝ }
+{
+    if !are_lent(state, answer, 4) {
+        return 1;
+    }
+    if !sizes_fit(state) {
+        return 1;
+    }
+    let stepped = step(code, kinds, words, slots, read_state(state));
+    let decision = stepped.decision;
+    let a = pressed_by(decision);
+    leave_value(answer, a);
+    leave(state, stepped.state, a)
+}
+
+// A press of forward.
+#[no_mangle]
+pub extern "C" fn workbook_forward(
+    code: &[u8],
+    kinds: &[u8],
+    words: &[u32],
+    slots: &mut [u32],
+    log: &mut [u32],
+    state: &mut [u32],
+    answer: &mut [u32],
+) -> u32
+    ensures { λ r. ⌜ record { number = r; slots = now (slots .exit); log = now (log .exit); state = now (state .exit); answer = now (answer .exit) } ≡ forwardCall (lent (now (code .entry)) (now (kinds .entry)) (now (words .entry))) (now (slots .entry)) (now (log .entry)) (now (state .entry)) (now (answer .entry)) ⌝ }
+{
+    if !are_lent(state, answer, 4) {
+        return 1;
+    }
+    if !sizes_fit(state) {
+        return 1;
+    }
+    let press = forward(code, kinds, words, slots, log, read_state(state));
+    let a = press.answer;
+    leave_value(answer, a);
+    leave(state, press.state, a)
+}
+
+// A press of back. It has no answer words.
+#[no_mangle]
+pub extern "C" fn workbook_back(
+    code: &[u8],
+    kinds: &[u8],
+    words: &[u32],
+    slots: &mut [u32],
+    log: &[u32],
+    state: &mut [u32],
+) -> u32
+    ensures { λ r. ⌜ record { number = r; slots = now (slots .exit); log = now (log .entry); state = now (state .exit); answer = [] } ≡ backCall (lent (now (code .entry)) (now (kinds .entry)) (now (words .entry))) (now (slots .entry)) (now (log .entry)) (now (state .entry)) ⌝ }
+{
+    if state.len() < 6 {
+        return 1;
+    }
+    if !sizes_fit(state) {
+        return 1;
+    }
+    let press = back(code, kinds, words, slots, log, read_state(state));
+    let a = press.answer;
+    leave(state, press.state, a)
+}
