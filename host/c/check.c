@@ -1,0 +1,691 @@
+/*
+ * Checks include/workbook.h against the library, at its boundary.
+ *
+ *   cc -std=c99 -Wall -Wextra -Iinclude host/c/check.c target/staticlib/libworkbook.a -lm -o check
+ *   ./check
+ *
+ * All lent memory lies in one struct, with guard elements around every part. `have` is what is lent, `want` what it should
+ * be after the next call. After each call the number is compared and then the whole struct, so that a word written at a
+ * wrong place, or left out, is seen wherever it lies.
+ */
+#include <stdio.h>
+#include <string.h>
+
+#include "workbook.h"
+
+enum { GUARD = 4, SHEET = 64, SLOTS = 8, POOL = 6, ENTRIES = 6, LIST = 9 };
+
+struct memory {
+    uint32_t slots[GUARD + SLOTS + GUARD];
+    uint32_t words[GUARD + POOL + GUARD];
+    uint32_t log[GUARD + ENTRIES * WORKBOOK_LOG_WORDS + GUARD];
+    uint32_t state[GUARD + WORKBOOK_STATE_WORDS + GUARD];
+    uint32_t answer[GUARD + WORKBOOK_ANSWER_WORDS + GUARD];
+    uint32_t answers[GUARD + LIST * WORKBOOK_PRESS_WORDS + GUARD];
+    uint8_t sheet[GUARD + SHEET + GUARD];
+    uint8_t kinds[GUARD + POOL + GUARD];
+    uint8_t presses[GUARD + LIST + GUARD];
+};
+
+static struct memory have, want;
+
+#define HAVE(part) (have.part + GUARD)
+#define WANT(part) (want.part + GUARD)
+#define COUNT_OF(table) (sizeof(table) / sizeof(table)[0])
+
+/* The parts that the next call is given. */
+struct bytes {
+    uint8_t *at;
+    size_t len;
+};
+struct words {
+    uint32_t *at;
+    size_t len;
+};
+static struct {
+    struct bytes sheet, code, kinds, presses;
+    struct words words, slots, log, state, answer, answers;
+} lent;
+
+#define OF(part) lent.part.at, lent.part.len
+#define METHOD OF(code), OF(kinds), OF(words), OF(slots)
+
+static uint32_t load(void) { return workbook_load(OF(sheet), OF(slots), OF(kinds), OF(words), OF(state), OF(answer)); }
+static uint32_t step(void) { return workbook_step(METHOD, OF(state), OF(answer)); }
+static uint32_t forward(void) { return workbook_forward(METHOD, OF(log), OF(state), OF(answer)); }
+static uint32_t back(void) { return workbook_back(METHOD, OF(log), OF(state)); }
+static uint32_t run(uint64_t budget) { return workbook_run(METHOD, OF(state), OF(answer), budget); }
+static uint32_t presses(void) { return workbook_presses(METHOD, OF(log), OF(state), OF(presses), OF(answers)); }
+
+static int checks, failed;
+
+static void check(int holds, int line, const char *what, unsigned long got, unsigned long wanted) {
+    checks++;
+    if (!holds) {
+        failed++;
+        printf("line %d: %s: %lu, not %lu\n", line, what, got, wanted);
+    }
+}
+
+/* The next call is to change nothing but what is said after this. */
+static void as_it_is(void) { memcpy(&want, &have, sizeof want); }
+
+/* The number that came back, and every element of the lent parts and of the guards. */
+static void expect(int line, uint32_t got, uint32_t wanted) {
+    const unsigned char *a = (const unsigned char *)&have, *b = (const unsigned char *)&want;
+    size_t same = 0;
+    while (same < sizeof have && a[same] == b[same]) same++;
+    check(got == wanted, line, "number", got, wanted);
+    check(same == sizeof have, line, "bytes of memory as wanted", (unsigned long)same, (unsigned long)sizeof have);
+    as_it_is();
+}
+
+#define EXPECT(got, wanted) expect(__LINE__, (got), (wanted))
+
+/* State and answer words that are lent past the sixth and the fourth. They are guard words. */
+static size_t extra;
+
+/* All memory filled with A5, then some bytes as sheet and as code. */
+static void lend(const uint8_t *bytes, size_t size) {
+    memset(&have, 0xA5, sizeof have);
+    memcpy(HAVE(sheet), bytes, size);
+    as_it_is();
+    lent.sheet.at = lent.code.at = HAVE(sheet);
+    lent.sheet.len = lent.code.len = size;
+    lent.kinds.at = HAVE(kinds);
+    lent.words.at = HAVE(words);
+    lent.kinds.len = lent.words.len = POOL;
+    lent.slots.at = HAVE(slots);
+    lent.slots.len = SLOTS;
+    lent.log.at = HAVE(log);
+    lent.log.len = ENTRIES * WORKBOOK_LOG_WORDS;
+    lent.state.at = HAVE(state);
+    lent.state.len = WORKBOOK_STATE_WORDS + extra;
+    lent.answer.at = HAVE(answer);
+    lent.answer.len = WORKBOOK_ANSWER_WORDS + extra;
+    lent.presses.at = HAVE(presses);
+    lent.presses.len = 0;
+    lent.answers.at = HAVE(answers);
+    lent.answers.len = LIST * WORKBOOK_PRESS_WORDS;
+}
+
+/* Writes a word of what is lent, as a caller does. */
+static void put(uint32_t *part, size_t at, uint32_t word) {
+    part[at] = word;
+    as_it_is();
+}
+
+/* The presses of the next list. */
+static void put_presses(const uint8_t *list, size_t size) {
+    memcpy(HAVE(presses), list, size);
+    as_it_is();
+    lent.presses.len = size;
+}
+
+static void want_state(uint32_t max_stack, uint32_t max_locals, uint32_t pc, uint32_t depth, uint64_t count) {
+    WANT(state)[WORKBOOK_MAX_STACK] = max_stack;
+    WANT(state)[WORKBOOK_MAX_LOCALS] = max_locals;
+    WANT(state)[WORKBOOK_PC] = pc;
+    WANT(state)[WORKBOOK_DEPTH] = depth;
+    WANT(state)[WORKBOOK_COUNT_LOW] = (uint32_t)count;
+    WANT(state)[WORKBOOK_COUNT_HIGH] = (uint32_t)(count >> 32);
+}
+
+static void want_answer(uint32_t low, uint32_t high) {
+    WANT(answer)[0] = low;
+    WANT(answer)[1] = high;
+}
+
+static void want_ran(uint32_t low, uint32_t high, uint64_t steps) {
+    want_answer(low, high);
+    WANT(answer)[2] = (uint32_t)steps;
+    WANT(answer)[3] = (uint32_t)(steps >> 32);
+}
+
+static void want_press(size_t n, uint32_t number, uint32_t low, uint32_t high) {
+    WANT(answers)[n * WORKBOOK_PRESS_WORDS] = number;
+    WANT(answers)[n * WORKBOOK_PRESS_WORDS + 1] = low;
+    WANT(answers)[n * WORKBOOK_PRESS_WORDS + 2] = high;
+}
+
+/* Document 01's printed sheet: ICONST_3, ICONST_4, IADD, IRETURN. */
+static const uint8_t printed[] = {0x4C, 0x4D, 0x00, 0x04, 0x00, 0x02, 0x00, 0x00, 0x43, 0x44,
+                                  0x00, 0x04, 0x06, 0x07, 0x60, 0xAC, 0x41, 0x52, 0x00, 0x00};
+
+/* max_stack 4, max_locals 3; LDC2_W 2, LRETURN; an int at 1 and a long at 2; two argument words. */
+static const uint8_t full[] = {
+    'L', 'M', 0, 4, 0, 4, 0, 3, 'C', 'D', 0, 4, 0x14, 0, 2, 0xAD, 'K', 'I', 0, 7, 0, 1, 3, 0x11, 0x12, 0x13, 0x14,
+    'K', 'I', 0, 11, 0, 2, 5, 0x21, 0x22, 0x23, 0x24, 0x25, 0x26, 0x27, 0x28,
+    'A', 'R', 0, 8, 0x31, 0x32, 0x33, 0x34, 0x41, 0x42, 0x43, 0x44};
+
+/* A load that is to be accepted, with its code of four bytes at 12. The caller has said what it wants of slots and pool. */
+static void load_it(void) {
+    want_answer(12, 4);
+    EXPECT(load(), WORKBOOK_OK);
+    lent.code.at = lent.sheet.at + HAVE(answer)[0];
+    lent.code.len = HAVE(answer)[1];
+}
+
+static void load_printed(void) {
+    lend(printed, sizeof printed);
+    memset(WANT(kinds), 0, POOL);
+    memset(WANT(words), 0, POOL * sizeof(uint32_t));
+    memset(WANT(slots), 0, 2 * sizeof(uint32_t));
+    want_state(2, 0, 0, 0, 0);
+    load_it();
+}
+
+static void load_full(void) {
+    lend(full, sizeof full);
+    memset(WANT(kinds), 0, POOL);
+    memset(WANT(words), 0, POOL * sizeof(uint32_t));
+    memset(WANT(slots), 0, 7 * sizeof(uint32_t));
+    WANT(kinds)[1] = 3;
+    WANT(kinds)[2] = 5;
+    WANT(words)[1] = 0x11121314;
+    WANT(words)[2] = 0x25262728;
+    WANT(words)[3] = 0x21222324;
+    WANT(slots)[0] = 0x31323334;
+    WANT(slots)[1] = 0x41424344;
+    want_state(4, 3, 0, 0, 0);
+    load_it();
+}
+
+/* A method that no sheet was loaded for, at its start, with different words in all slots. */
+static void lend_code(const uint8_t *code, size_t size, uint32_t max_stack, uint32_t max_locals) {
+    uint32_t i;
+    lend(code, size);
+    want_state(max_stack, max_locals, 0, 0, 0);
+    for (i = 0; i < SLOTS; i++) WANT(slots)[i] = 100 + i;
+    memcpy(&have, &want, sizeof have);
+}
+
+static void check_load(void) {
+    static const struct {
+        uint32_t number;
+        size_t size;
+        uint8_t bytes[24];
+    } bad[] = {
+        {WORKBOOK_SHEET_CUT, 7, {'L', 'M', 0, 4, 0, 2, 0}},
+        {WORKBOOK_SHEET_CUT, 3, {'L', 'M', 0}},
+        {WORKBOOK_SHEET_MARK, 8, {'l', 'm', 0, 4, 0, 2, 0, 0}},
+        {WORKBOOK_SHEET_ORDER, 0, {0}},
+        {WORKBOOK_SHEET_ORDER, 8, {'L', 'M', 0, 4, 0, 2, 0, 0}},
+        {WORKBOOK_SHEET_ORDER, 5, {'C', 'D', 0, 1, 0}},
+        {WORKBOOK_SHEET_LENGTH, 7, {'L', 'M', 0, 3, 0, 2, 0}},
+        {WORKBOOK_SHEET_CONSTANT, 24, {'L', 'M', 0, 4, 0, 2, 0, 0, 'C', 'D', 0, 1, 0, 'K', 'I', 0, 7, 0, 1, 5, 0, 0, 0, 0}},
+        {WORKBOOK_SHEET_ARGUMENTS, 21, {'L', 'M', 0, 4, 0, 2, 0, 0, 'C', 'D', 0, 1, 0, 'A', 'R', 0, 4, 0, 0, 0, 0}},
+    };
+    size_t i;
+
+    load_printed();
+    load_full();
+
+    /* A refused sheet; then with nothing lent but the sheet: its own number comes first. */
+    for (i = 0; i < COUNT_OF(bad); i++) {
+        lend(bad[i].bytes, bad[i].size);
+        EXPECT(load(), bad[i].number);
+        lent.slots.len = lent.kinds.len = lent.words.len = lent.state.len = lent.answer.len = 0;
+        EXPECT(load(), bad[i].number);
+    }
+
+    /* 26: slots, pool, state or answer one too short, or kinds and words not equally long. */
+    lend(full, sizeof full);
+    lent.slots.len = 6;
+    EXPECT(load(), WORKBOOK_SHEET_MEMORY);
+    lent.slots.len = SLOTS;
+    lent.kinds.len = lent.words.len = 3;
+    EXPECT(load(), WORKBOOK_SHEET_MEMORY);
+    lent.kinds.len = 4;
+    lent.words.len = 5;
+    EXPECT(load(), WORKBOOK_SHEET_MEMORY);
+    lent.words.len = 4;
+    lent.state.len = WORKBOOK_STATE_WORDS - 1;
+    EXPECT(load(), WORKBOOK_SHEET_MEMORY);
+    lent.state.len = WORKBOOK_STATE_WORDS;
+    lent.answer.len = WORKBOOK_ANSWER_WORDS - 1;
+    EXPECT(load(), WORKBOOK_SHEET_MEMORY);
+    lent.state.len = lent.answer.len = 0;
+    EXPECT(load(), WORKBOOK_SHEET_MEMORY);
+}
+
+/* The printed method by steps, and a long of the pool. */
+static void check_step(void) {
+    load_printed();
+    WANT(slots)[0] = 3;
+    want_state(2, 0, 1, 1, 0);
+    EXPECT(step(), WORKBOOK_OK);
+    WANT(slots)[1] = 4;
+    want_state(2, 0, 2, 2, 0);
+    EXPECT(step(), WORKBOOK_OK);
+    WANT(slots)[0] = 7;
+    want_state(2, 0, 3, 1, 0);
+    EXPECT(step(), WORKBOOK_OK);
+    want_answer(7, 0);
+    EXPECT(step(), WORKBOOK_RETURN_INT);
+    EXPECT(step(), WORKBOOK_RETURN_INT);
+
+    load_full();
+    WANT(slots)[3] = 0x25262728;
+    WANT(slots)[4] = 0x21222324;
+    want_state(4, 3, 3, 2, 0);
+    EXPECT(step(), WORKBOOK_OK);
+    want_answer(0x25262728, 0x21222324);
+    EXPECT(step(), WORKBOOK_RETURN_LONG);
+
+    /* An ordinary step gives count 0 in both words; an outcome leaves it. */
+    load_printed();
+    put(HAVE(state), WORKBOOK_COUNT_LOW, 5);
+    put(HAVE(state), WORKBOOK_COUNT_HIGH, 6);
+    WANT(slots)[0] = 3;
+    want_state(2, 0, 1, 1, 0);
+    EXPECT(step(), WORKBOOK_OK);
+    put(HAVE(state), WORKBOOK_COUNT_HIGH, 6);
+    put(HAVE(state), WORKBOOK_PC, 3);
+    want_answer(3, 0);
+    EXPECT(step(), WORKBOOK_RETURN_INT);
+}
+
+/* Each outcome and each refusal of an instruction. */
+static void check_ends(void) {
+    /* Codes of one-byte instructions up to the last, which ends the method after some steps, at some depth. */
+    static const struct {
+        uint32_t number, low, high, steps, depth;
+        size_t size;
+        uint8_t code[4];
+    } ends[] = {
+        {WORKBOOK_RETURN_INT, 0xFFFFFFFF, 0, 1, 1, 2, {0x02, 0xAC}},
+        {WORKBOOK_RETURN_FLOAT, 0x40000000, 0, 1, 1, 2, {0x0D, 0xAE}},
+        {WORKBOOK_RETURN_REF, 101, 0, 1, 1, 2, {0x2B, 0xB0}},
+        {WORKBOOK_RETURN_LONG, 1, 0, 1, 2, 2, {0x0A, 0xAD}},
+        {WORKBOOK_RETURN_DOUBLE, 0, 0x3FF00000, 1, 2, 2, {0x0F, 0xAF}},
+        {WORKBOOK_RETURN_VOID, 0, 0, 0, 0, 1, {0xB1}},
+        {WORKBOOK_THROW_ARITHMETIC, 0, 0, 2, 2, 3, {0x04, 0x03, 0x6C}},
+        {WORKBOOK_REFUSED_OPCODE, 0, 0, 0, 0, 1, {0xCA}},
+        {WORKBOOK_REFUSED_OPERANDS, 0, 0, 0, 0, 2, {0x11, 0x00}},
+        {WORKBOOK_REFUSED_POP, 0, 0, 1, 1, 2, {0x03, 0x60}},
+        {WORKBOOK_REFUSED_PUSH, 0, 0, 2, 2, 3, {0x03, 0x03, 0x03}},
+        {WORKBOOK_REFUSED_LOCAL, 0, 0, 0, 0, 2, {0x15, 0x02}},
+        {WORKBOOK_REFUSED_CONSTANT, 0, 0, 0, 0, 2, {0x12, 0x00}},
+        {WORKBOOK_REFUSED_NEXT_PC, 0, 0, 1, 0, 2, {0x00, 0x03}},
+    };
+    /* Lowest key 1, highest key 0. */
+    static const uint8_t tableswitch[] = {0xAA, 0, 0, 0, 0, 0, 0, 0, 0, 0, 0, 1, 0, 0, 0, 0};
+    static const uint8_t list[] = {WORKBOOK_PRESS_FORWARD};
+    size_t i, j;
+
+    for (i = 0; i < COUNT_OF(ends); i++) {
+        lend_code(ends[i].code, ends[i].size, 2, 2);
+        for (j = 0; j < ends[i].steps; j++) check(step() == WORKBOOK_OK, __LINE__, "an ordinary step", (unsigned long)i, 0);
+        as_it_is();
+        if (WORKBOOK_RETURN_INT <= ends[i].number && ends[i].number <= WORKBOOK_RETURN_VOID) {
+            want_answer(ends[i].low, ends[i].high);
+        }
+        EXPECT(step(), ends[i].number);
+        memset(HAVE(answer), 0xA5, 2 * sizeof(uint32_t));
+        as_it_is();
+        if (WORKBOOK_RETURN_INT <= ends[i].number && ends[i].number <= WORKBOOK_RETURN_VOID) {
+            want_answer(ends[i].low, ends[i].high);
+        }
+        EXPECT(forward(), ends[i].number);
+        put_presses(list, sizeof list);
+        want_press(0, ends[i].number, ends[i].low, ends[i].high);
+        EXPECT(presses(), WORKBOOK_OK);
+
+        /* A run that stands there, and one from the start. */
+        want_ran(ends[i].low, ends[i].high, 0);
+        EXPECT(run(9), ends[i].number);
+        put(HAVE(state), WORKBOOK_PC, 0);
+        put(HAVE(state), WORKBOOK_DEPTH, 0);
+        want_state(2, 2, ends[i].steps, ends[i].depth, 0);
+        want_ran(ends[i].low, ends[i].high, ends[i].steps);
+        EXPECT(run(9), ends[i].number);
+    }
+    lend_code(tableswitch, sizeof tableswitch, 2, 2);
+    EXPECT(step(), WORKBOOK_REFUSED_SWITCH);
+    lent.code.len--;
+    EXPECT(step(), WORKBOOK_REFUSED_OPERANDS);
+}
+
+/* What is lent is refused with a number by every function on a state: nothing is written but a run's four zeros and the
+   answers of a list, whose two presses get the number each. */
+static void refused(int line, uint32_t number) {
+    static const uint8_t list[] = {WORKBOOK_PRESS_FORWARD, WORKBOOK_PRESS_BACK};
+    expect(line, step(), number);
+    expect(line, forward(), number);
+    expect(line, back(), number);
+    want_ran(0, 0, 0);
+    expect(line, run(9), number);
+    memset(HAVE(answer), 0xA5, WORKBOOK_ANSWER_WORDS * sizeof(uint32_t));
+    as_it_is();
+    want_ran(0, 0, 0);
+    expect(line, run(0), number);
+    put_presses(list, sizeof list);
+    want_press(0, number, 0, 0);
+    want_press(1, number, 0, 0);
+    expect(line, presses(), WORKBOOK_OK);
+}
+
+static void check_boundary(void) {
+    static const struct {
+        uint32_t number;
+        size_t at;
+        uint32_t word;
+    } states[] = {
+        {WORKBOOK_REFUSED_LENT, WORKBOOK_MAX_STACK, 65536},
+        {WORKBOOK_REFUSED_LENT, WORKBOOK_MAX_STACK, 0x80000002},
+        {WORKBOOK_REFUSED_LENT, WORKBOOK_MAX_LOCALS, 65536},
+        {WORKBOOK_REFUSED_LENT, WORKBOOK_MAX_LOCALS, 0xFFFFFFFF},
+        {WORKBOOK_REFUSED_LENT, WORKBOOK_MAX_LOCALS, SLOTS - 1},
+        {WORKBOOK_REFUSED_PC, WORKBOOK_PC, 4},
+        {WORKBOOK_REFUSED_PC, WORKBOOK_PC, 65536},
+        {WORKBOOK_REFUSED_PC, WORKBOOK_PC, 0xFFFFFFFF},
+        {WORKBOOK_REFUSED_DEPTH, WORKBOOK_DEPTH, 3},
+        {WORKBOOK_REFUSED_DEPTH, WORKBOOK_DEPTH, 65536},
+        {WORKBOOK_REFUSED_DEPTH, WORKBOOK_DEPTH, 0xFFFFFFFF},
+    };
+    size_t i;
+
+    for (i = 0; i < COUNT_OF(states); i++) {
+        load_printed();
+        put(HAVE(state), WORKBOOK_COUNT_LOW, 1);
+        put(HAVE(state), states[i].at, states[i].word);
+        refused(__LINE__, states[i].number);
+    }
+    load_printed();
+    lent.words.len--;
+    refused(__LINE__, WORKBOOK_REFUSED_LENT);
+    load_printed();
+    lent.slots.len = 1;
+    refused(__LINE__, WORKBOOK_REFUSED_LENT);
+    load_printed();
+    lent.code.len = 0;
+    refused(__LINE__, WORKBOOK_REFUSED_PC);
+
+    /* Fewer than six state words or four answer words: 1, and nothing is written, also where question 2 says no. */
+    for (i = 0; i < 20; i++) {
+        load_printed();
+        if (i % 2) put(HAVE(state), WORKBOOK_PC, 4);
+        lent.state.len = i < 12 ? i / 2 : WORKBOOK_STATE_WORDS;
+        lent.answer.len = i < 12 ? WORKBOOK_ANSWER_WORDS : (i - 12) / 2;
+        lent.presses.len = i % 2;
+        EXPECT(step(), WORKBOOK_REFUSED_LENT);
+        EXPECT(forward(), WORKBOOK_REFUSED_LENT);
+        EXPECT(run(9), WORKBOOK_REFUSED_LENT);
+        if (i < 12) {
+            EXPECT(back(), WORKBOOK_REFUSED_LENT);
+            EXPECT(presses(), WORKBOOK_REFUSED_LENT);
+        }
+    }
+}
+
+/* The largest code, pool and frame, and one more of each. The code is NOPs, so that nothing but the state changes. */
+static void check_limits(void) {
+    static uint8_t code[65536 + GUARD], kinds[65537 + GUARD];
+    static uint32_t words[65537 + GUARD], slots[2 * 65535 + GUARD];
+    size_t i;
+
+    memset(kinds, 0xA5, sizeof kinds);
+    memset(words, 0xA5, sizeof words);
+    memset(slots, 0xA5, sizeof slots);
+    lend_code(code, 1, 65535, 65535);
+    lent.code.at = code;
+    lent.code.len = 65535;
+    lent.kinds.at = kinds;
+    lent.words.at = words;
+    lent.kinds.len = lent.words.len = 65536;
+    lent.slots.at = slots;
+    lent.slots.len = 2 * 65535;
+    want_state(65535, 65535, 1, 0, 0);
+    EXPECT(step(), WORKBOOK_OK);
+    put(HAVE(state), WORKBOOK_DEPTH, 65535);
+    want_state(65535, 65535, 65534, 65535, 0);
+    want_ran(0, 0, 65533);
+    EXPECT(run(UINT64_MAX), WORKBOOK_REFUSED_NEXT_PC);
+    lent.code.len++;
+    refused(__LINE__, WORKBOOK_REFUSED_PC);
+    lent.code.len--;
+    lent.kinds.len = lent.words.len = 65537;
+    refused(__LINE__, WORKBOOK_REFUSED_LENT);
+    lent.kinds.len = lent.words.len = 65536;
+    lent.slots.len--;
+    refused(__LINE__, WORKBOOK_REFUSED_LENT);
+    lent.slots.len++;
+    put(HAVE(state), WORKBOOK_DEPTH, 0);
+    put(HAVE(state), WORKBOOK_MAX_STACK, 65534);
+    put(HAVE(state), WORKBOOK_MAX_LOCALS, 65536);
+    refused(__LINE__, WORKBOOK_REFUSED_LENT);
+    put(HAVE(state), WORKBOOK_MAX_STACK, 65536);
+    put(HAVE(state), WORKBOOK_MAX_LOCALS, 65534);
+    refused(__LINE__, WORKBOOK_REFUSED_LENT);
+    for (i = 0; i < COUNT_OF(slots) && slots[i] == 0xA5A5A5A5; i++) {
+    }
+    check(i == COUNT_OF(slots), __LINE__, "slots left", (unsigned long)i, COUNT_OF(slots));
+
+    /* A load into them: the pool is cleared over its length, and left by a refusal. */
+    lend(printed, sizeof printed);
+    lent.kinds.at = kinds;
+    lent.words.at = words;
+    lent.kinds.len = lent.words.len = 65537;
+    EXPECT(load(), WORKBOOK_SHEET_MEMORY);
+    for (i = 0; i < COUNT_OF(words) && kinds[i] == 0xA5 && words[i] == 0xA5A5A5A5; i++) {
+    }
+    check(i == COUNT_OF(words), __LINE__, "pool left", (unsigned long)i, COUNT_OF(words));
+    lent.kinds.len = lent.words.len = 65536;
+    memset(WANT(slots), 0, 2 * sizeof(uint32_t));
+    want_state(2, 0, 0, 0, 0);
+    load_it();
+    for (i = 0; i < 65536 && kinds[i] == 0 && words[i] == 0; i++) {
+    }
+    check(i == 65536, __LINE__, "pool cleared", (unsigned long)i, 65536);
+    check(kinds[65536] == 0xA5 && words[65536] == 0xA5A5A5A5, __LINE__, "pool's end", words[65536], 0xA5A5A5A5);
+}
+
+/* LCONST_1, DCONST_1, DUP2_X2, LSTORE_0, ISTORE_1, NOP, DRETURN on two locals and six places. Each ordinary step by its
+   entry in the log, of which the fifth word on are the old words, and by the words that it writes instead. */
+static const uint8_t long_walk[] = {0x0A, 0x0F, 0x5E, 0x3F, 0x3C, 0x00, 0xAF};
+static const struct {
+    uint32_t depth, entry[WORKBOOK_LOG_WORDS], new_words[6];
+} taken[ENTRIES] = {
+    {2, {0, 0, 2, 2, 102, 103}, {1, 0}},
+    {4, {1, 2, 4, 2, 104, 105}, {0, 0x3FF00000}},
+    {6, {2, 4, 2, 6, 1, 0, 0, 0x3FF00000, 106, 107}, {0, 0x3FF00000, 1, 0, 0, 0x3FF00000}},
+    {4, {3, 6, 0, 2, 100, 101}, {0, 0x3FF00000}},
+    {3, {4, 4, 1, 1, 0x3FF00000}, {0}},
+    {3, {5, 3, 0, 0}, {0}},
+};
+
+static void want_taken(size_t n, uint64_t count) {
+    memcpy(WANT(slots) + taken[n].entry[2], taken[n].new_words, taken[n].entry[3] * sizeof(uint32_t));
+    want_state(6, 2, taken[n].entry[0] + 1, taken[n].depth, count);
+}
+static void want_logged(size_t n) {
+    want_taken(n, n + 1);
+    memcpy(WANT(log) + n * WORKBOOK_LOG_WORDS, taken[n].entry, sizeof taken[n].entry);
+}
+static void want_taken_back(size_t n) {
+    memcpy(WANT(slots) + taken[n].entry[2], taken[n].entry + 4, taken[n].entry[3] * sizeof(uint32_t));
+    want_state(6, 2, taken[n].entry[0], taken[n].entry[1], n);
+}
+
+/* All six steps with history. */
+static void walk(void) {
+    size_t i;
+    lend_code(long_walk, sizeof long_walk, 6, 2);
+    for (i = 0; i < ENTRIES; i++) {
+        want_logged(i);
+        EXPECT(forward(), WORKBOOK_OK);
+    }
+}
+
+static void check_walk(void) {
+    size_t i;
+
+    walk();
+    want_answer(0x3FF00000, 1);
+    EXPECT(forward(), WORKBOOK_RETURN_DOUBLE);
+    for (i = ENTRIES; i-- > 0;) {
+        want_taken_back(i);
+        EXPECT(back(), WORKBOOK_OK);
+    }
+    EXPECT(back(), WORKBOOK_REFUSED_START);
+
+    lend_code(long_walk, sizeof long_walk, 6, 2);
+    for (i = 0; i < ENTRIES; i++) {
+        want_taken(i, 0);
+        EXPECT(step(), WORKBOOK_OK);
+    }
+    lend_code(long_walk, sizeof long_walk, 6, 2);
+    for (i = 0; i < ENTRIES; i++) want_taken(i, 0);
+    want_ran(0x3FF00000, 1, ENTRIES);
+    EXPECT(run(ENTRIES + 1), WORKBOOK_RETURN_DOUBLE);
+
+    /* 12: no whole entry is left, and count is 64 bits. */
+    lend_code(long_walk, sizeof long_walk, 6, 2);
+    lent.log.len = WORKBOOK_LOG_WORDS - 1;
+    EXPECT(forward(), WORKBOOK_REFUSED_LOG_FULL);
+    lent.log.len = 0;
+    EXPECT(forward(), WORKBOOK_REFUSED_LOG_FULL);
+    lent.log.len = WORKBOOK_LOG_WORDS;
+    put(HAVE(state), WORKBOOK_COUNT_HIGH, 1);
+    EXPECT(forward(), WORKBOOK_REFUSED_LOG_FULL);
+    put(HAVE(state), WORKBOOK_COUNT_HIGH, 0xFFFFFFFF);
+    put(HAVE(state), WORKBOOK_COUNT_LOW, 0xFFFFFFFF);
+    EXPECT(forward(), WORKBOOK_REFUSED_LOG_FULL);
+}
+
+/* 14: a log that does not reach, and entries that are not sound. The third entry is changed. */
+static void check_unsound(void) {
+    static const struct {
+        size_t at;
+        uint32_t word;
+    } unsound[] = {{0, 7}, {0, 0x10000}, {1, 7}, {1, 0x10000}, {2, 3}, {2, 0xFFFFFFFF}, {3, 7}, {3, 0xFFFFFFFF}};
+    static const uint8_t list[] = {WORKBOOK_PRESS_BACK};
+    size_t i;
+
+    walk();
+    lent.log.len--;
+    EXPECT(back(), WORKBOOK_REFUSED_ENTRY);
+    lent.log.len++;
+    put(HAVE(state), WORKBOOK_COUNT_LOW, ENTRIES + 1);
+    EXPECT(back(), WORKBOOK_REFUSED_ENTRY);
+    put(HAVE(state), WORKBOOK_COUNT_LOW, 3);
+    put(HAVE(state), WORKBOOK_COUNT_HIGH, 1);
+    EXPECT(back(), WORKBOOK_REFUSED_ENTRY);
+    put(HAVE(state), WORKBOOK_COUNT_HIGH, 0);
+    for (i = 0; i < COUNT_OF(unsound); i++) {
+        uint32_t *word = HAVE(log) + 2 * WORKBOOK_LOG_WORDS + unsound[i].at, sound = *word;
+        put(word, 0, unsound[i].word);
+        EXPECT(back(), WORKBOOK_REFUSED_ENTRY);
+        put(word, 0, sound);
+    }
+
+    /* Seven places that are in the frame; by a list of presses too. */
+    put(HAVE(state), WORKBOOK_COUNT_LOW, ENTRIES);
+    put(HAVE(log), (ENTRIES - 1) * WORKBOOK_LOG_WORDS + 3, 7);
+    EXPECT(back(), WORKBOOK_REFUSED_ENTRY);
+    put_presses(list, sizeof list);
+    want_press(0, WORKBOOK_REFUSED_ENTRY, 0, 0);
+    EXPECT(presses(), WORKBOOK_OK);
+}
+
+static void check_run(void) {
+    static const uint8_t loop[] = {0xA7, 0x00, 0x00};
+    static const uint64_t enough[] = {4, (uint64_t)1 << 32, UINT64_MAX};
+    size_t i;
+
+    /* Stopped after exactly the budget, with no further look. */
+    load_printed();
+    put(HAVE(state), WORKBOOK_COUNT_LOW, 5);
+    put(HAVE(state), WORKBOOK_COUNT_HIGH, 6);
+    want_state(2, 0, 0, 0, 0);
+    want_ran(0, 0, 0);
+    EXPECT(run(0), WORKBOOK_STOPPED);
+    WANT(slots)[0] = 3;
+    WANT(slots)[1] = 4;
+    want_state(2, 0, 2, 2, 0);
+    want_ran(0, 0, 2);
+    EXPECT(run(2), WORKBOOK_STOPPED);
+    WANT(slots)[0] = 7;
+    want_state(2, 0, 3, 1, 0);
+    want_ran(0, 0, 1);
+    EXPECT(run(1), WORKBOOK_STOPPED);
+    want_ran(7, 0, 0);
+    EXPECT(run(1), WORKBOOK_RETURN_INT);
+
+    /* A return before the budget is used up, which is 64 bits. */
+    for (i = 0; i < COUNT_OF(enough); i++) {
+        load_printed();
+        WANT(slots)[0] = 7;
+        WANT(slots)[1] = 4;
+        want_state(2, 0, 3, 1, 0);
+        want_ran(7, 0, 3);
+        EXPECT(run(enough[i]), WORKBOOK_RETURN_INT);
+    }
+    lend_code(loop, sizeof loop, 2, 2);
+    want_ran(0, 0, 1000003);
+    EXPECT(run(1000003), WORKBOOK_STOPPED);
+
+    /* A run ends a walk. */
+    walk();
+    want_state(6, 2, 6, 3, 0);
+    want_ran(0x3FF00000, 1, 0);
+    EXPECT(run(9), WORKBOOK_RETURN_DOUBLE);
+    EXPECT(back(), WORKBOOK_REFUSED_START);
+}
+
+static void check_presses(void) {
+    /* Any byte but 0 is forward. The return is pressed twice, and back once too often. */
+    static const uint8_t printed_list[] = {0, 1, 0xFF, 2, 1, 0x80, 0, 0, 0};
+    static const uint32_t printed_numbers[] = {13, 0, 0, 0, 101, 101, 0, 0, 0};
+    static const uint8_t there_and_back[] = {1, 1, 1, 1, 0, 1, 0};
+    size_t i;
+
+    lend_code(printed + 12, 4, 2, 2);
+    put_presses(printed_list, sizeof printed_list);
+    for (i = 0; i < sizeof printed_list; i++) want_press(i, printed_numbers[i], printed_numbers[i] == 101 ? 7 : 0, 0);
+    memset(WANT(log), 0, 3 * WORKBOOK_LOG_WORDS * sizeof(uint32_t));
+    WANT(log)[2] = 2, WANT(log)[3] = 1, WANT(log)[4] = 102;
+    WANT(log)[10] = 1, WANT(log)[11] = 1, WANT(log)[12] = 3, WANT(log)[13] = 1, WANT(log)[14] = 103;
+    WANT(log)[20] = 2, WANT(log)[21] = 2, WANT(log)[22] = 2, WANT(log)[23] = 1, WANT(log)[24] = 3;
+    EXPECT(presses(), WORKBOOK_OK);
+
+    /* The log is full after three; answers past the last press stay. */
+    lend_code(long_walk, sizeof long_walk, 6, 2);
+    lent.log.len = 4 * WORKBOOK_LOG_WORDS - 1;
+    put_presses(there_and_back, sizeof there_and_back);
+    for (i = 0; i < sizeof there_and_back; i++) want_press(i, i == 3 ? WORKBOOK_REFUSED_LOG_FULL : 0, 0, 0);
+    for (i = 0; i < 3; i++) want_logged(i);
+    want_taken_back(2);
+    EXPECT(presses(), WORKBOOK_OK);
+
+    /* One word too few for the answers; a list of which three times the length wraps to 2: refused before it is read. */
+    lend_code(long_walk, sizeof long_walk, 6, 2);
+    put_presses(there_and_back, sizeof there_and_back);
+    lent.answers.len = WORKBOOK_PRESS_WORDS * sizeof there_and_back - 1;
+    EXPECT(presses(), WORKBOOK_REFUSED_LENT);
+    lent.presses.len = SIZE_MAX / 3 + 1;
+    EXPECT(presses(), WORKBOOK_REFUSED_LENT);
+
+    /* No press. */
+    lent.presses.len = lent.answers.len = 0;
+    EXPECT(presses(), WORKBOOK_OK);
+    lent.state.len = WORKBOOK_STATE_WORDS - 1;
+    EXPECT(presses(), WORKBOOK_REFUSED_LENT);
+}
+
+int main(void) {
+    for (extra = 0; extra <= 2; extra += 2) {
+        check_load();
+        check_step();
+        check_ends();
+        check_boundary();
+        check_limits();
+        check_walk();
+        check_unsound();
+        check_run();
+        check_presses();
+    }
+    printf("%d checks, %d failed\n", checks, failed);
+    return failed != 0;
+}

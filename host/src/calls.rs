@@ -1,0 +1,223 @@
+//! The library's functions on typed states and answers. Nothing here decides anything: words become
+//! types and types become words.
+
+use crate::answers::{answer, end, joined, refusal};
+use crate::{ffi, Answer, Ran, Refusal};
+use std::ops::Range;
+
+/// Where a walk stands, apart from its slots.
+#[derive(Clone, Copy, Debug, PartialEq, Eq, Hash)]
+pub struct State {
+    /// How many places the operand stack may have.
+    pub max_stack: u16,
+    /// How many locals there are.
+    pub max_locals: u16,
+    /// The offset of the next instruction in the code.
+    pub pc: u32,
+    /// How many places of the operand stack are in use.
+    pub depth: u32,
+    /// How many entries of the log are in use.
+    pub count: u64,
+}
+
+impl State {
+    /// How many slots the frame has: the locals, then the places of the operand stack.
+    pub fn frame(&self) -> usize {
+        usize::from(self.max_locals) + usize::from(self.max_stack)
+    }
+
+    fn to_words(self) -> [u32; 6] {
+        let (low, high) = (self.count as u32, (self.count >> 32) as u32);
+        [
+            self.max_stack.into(),
+            self.max_locals.into(),
+            self.pc,
+            self.depth,
+            low,
+            high,
+        ]
+    }
+
+    fn from_words(words: [u32; 6]) -> State {
+        let [max_stack, max_locals, pc, depth, low, high] = words;
+        let size = |word| u16::try_from(word).expect("the library gives sizes of 16 bits");
+        State {
+            max_stack: size(max_stack),
+            max_locals: size(max_locals),
+            pc,
+            depth,
+            count: joined(low, high),
+        }
+    }
+}
+
+/// What a step reads and never writes: the code and the constant pool. Any slices will do; what
+/// does not fit is refused.
+#[derive(Clone, Copy, Debug)]
+pub struct Parts<'a> {
+    /// The part of the sheet that the load handed back.
+    pub code: &'a [u8],
+    /// The constant pool's tags, by index.
+    pub kinds: &'a [u8],
+    /// The constant pool's words, by index.
+    pub words: &'a [u32],
+}
+
+/// What an accepted load gives.
+#[derive(Clone, Debug, PartialEq, Eq)]
+pub struct Loaded {
+    /// The state at the start of the walk.
+    pub state: State,
+    /// Where the code lies in the sheet.
+    pub code: Range<usize>,
+}
+
+/// A press of one of the two buttons.
+#[derive(Clone, Copy, Debug, PartialEq, Eq, Hash)]
+pub enum Press {
+    /// One step further, with an entry in the log.
+    Forward,
+    /// The last step taken back.
+    Back,
+}
+
+/// Loads a sheet into lent memory. A refused load writes nothing.
+pub fn load(
+    sheet: &[u8],
+    slots: &mut [u32],
+    kinds: &mut [u8],
+    words: &mut [u32],
+) -> Result<Loaded, Refusal> {
+    let (mut state, mut place) = ([0; 6], [0; 4]);
+    match ffi::load(sheet, slots, kinds, words, &mut state, &mut place) {
+        0 => {
+            let (start, length) = (place[0] as usize, place[1] as usize);
+            Ok(Loaded {
+                state: State::from_words(state),
+                code: start..start + length,
+            })
+        }
+        number => Err(refusal(number)),
+    }
+}
+
+/// One step without history. An ordinary step gives count 0: it ends a walk, because the log no
+/// longer says how to go back.
+pub fn step(parts: Parts, slots: &mut [u32], state: &mut State) -> Answer {
+    let (mut words, mut value) = (state.to_words(), [0; 4]);
+    let number = ffi::step(
+        parts.code,
+        parts.kinds,
+        parts.words,
+        slots,
+        &mut words,
+        &mut value,
+    );
+    *state = State::from_words(words);
+    answer(number, value[0], value[1])
+}
+
+/// One step with history: the log says how to take it back.
+pub fn forward(parts: Parts, slots: &mut [u32], log: &mut [u32], state: &mut State) -> Answer {
+    let (mut words, mut value) = (state.to_words(), [0; 4]);
+    let number = ffi::forward(
+        parts.code,
+        parts.kinds,
+        parts.words,
+        slots,
+        log,
+        &mut words,
+        &mut value,
+    );
+    *state = State::from_words(words);
+    answer(number, value[0], value[1])
+}
+
+/// Takes the last step back. The answer is granted or refused.
+pub fn back(parts: Parts, slots: &mut [u32], log: &[u32], state: &mut State) -> Answer {
+    let mut words = state.to_words();
+    let number = ffi::back(parts.code, parts.kinds, parts.words, slots, log, &mut words);
+    *state = State::from_words(words);
+    answer(number, 0, 0)
+}
+
+/// Steps without history until an outcome, a refusal, or the budget's end.
+///
+/// The state is then where the run stands, with count 0: a run ends a walk. Only a run that its
+/// first three questions refuse (memory, pc, depth) leaves the state as it was. In a method that
+/// does not end, a run takes as long as its budget says.
+pub fn run(parts: Parts, slots: &mut [u32], state: &mut State, budget: u64) -> Ran {
+    let (mut words, mut report) = (state.to_words(), [0; 4]);
+    let number = ffi::run(
+        parts.code,
+        parts.kinds,
+        parts.words,
+        slots,
+        &mut words,
+        &mut report,
+        budget,
+    );
+    *state = State::from_words(words);
+    let [low, high, steps_low, steps_high] = report;
+    Ran {
+        end: end(number, low, high),
+        steps: joined(steps_low, steps_high),
+    }
+}
+
+/// Makes a list of presses, one after the other, in one call. Each press has its own answer, and
+/// the list goes on after a refused one.
+pub fn presses(
+    parts: Parts,
+    slots: &mut [u32],
+    log: &mut [u32],
+    state: &mut State,
+    list: &[Press],
+) -> Vec<Answer> {
+    let bytes: Vec<u8> = list
+        .iter()
+        .map(|press| u8::from(*press == Press::Forward))
+        .collect();
+    let mut answers = vec![[0; 3]; list.len()];
+    let mut words = state.to_words();
+    let number = ffi::presses(
+        parts.code,
+        parts.kinds,
+        parts.words,
+        slots,
+        log,
+        &mut words,
+        &bytes,
+        answers.as_flattened_mut(),
+    );
+    // The only other number is for too few words of state or answers, and there are enough of both.
+    assert_eq!(
+        number, 0,
+        "the library makes every list of presses that has room for its answers"
+    );
+    *state = State::from_words(words);
+    answers
+        .into_iter()
+        .map(|[number, low, high]| answer(number, low, high))
+        .collect()
+}
+
+#[cfg(test)]
+mod tests {
+    use super::*;
+
+    #[test]
+    fn a_state_is_six_words_low_word_first() {
+        let state = State {
+            max_stack: 65_535,
+            max_locals: 2,
+            pc: 3,
+            depth: 0xFFFF_FFFF,
+            count: 0x0000_0005_8000_0004,
+        };
+        let words = [65_535, 2, 3, 0xFFFF_FFFF, 0x8000_0004, 5];
+        assert_eq!(state.to_words(), words);
+        assert_eq!(State::from_words(words), state);
+        assert_eq!(state.frame(), 65_537);
+    }
+}

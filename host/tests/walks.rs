@@ -1,0 +1,148 @@
+//! The type that owns its memory.
+#![forbid(unsafe_code)]
+
+mod common;
+
+use common::{accepted_samples, constant, record, refused, sample, samples, sheet, sizes};
+use workbook_host::{Answer, End, Value, Walk};
+
+#[test]
+fn a_walk_opens_what_a_load_accepts() {
+    for sample in samples() {
+        let refused = sample.printed.strip_prefix("sheet ");
+        let number = Walk::open(sample.sheet)
+            .err()
+            .map(|refusal| refusal.number().to_string());
+        assert_eq!(number.as_deref(), refused.map(str::trim), "{}", sample.name);
+    }
+}
+
+#[test]
+fn there_is_memory_for_every_sheet() {
+    let long = constant(65_534, 5, &0x1122_3344_5566_7788_u64.to_be_bytes());
+    // LDC2_W 65534, LRETURN.
+    let code = record(b"CD", &[0x14, 0xFF, 0xFE, 0xAD]);
+    let sheet = [sizes(65_535, 65_535), code, long, common::arguments(&[1])].concat();
+    let mut walk = Walk::open(sheet).unwrap();
+    assert_eq!((walk.locals().len(), walk.frame().len()), (65_535, 131_070));
+    assert_eq!(walk.forward(), Answer::Granted);
+    assert_eq!(walk.stack(), [0x5566_7788, 0x1122_3344]);
+    assert_eq!(
+        walk.forward(),
+        Answer::Return(Value::Long(0x1122_3344_5566_7788))
+    );
+}
+
+#[test]
+fn a_walk_shows_where_it_stands() {
+    // BIPUSH -2, ISTORE_1, ILOAD_1, IRETURN.
+    let code = [0x10, 0xFE, 0x3C, 0x1B, 0xAC];
+    let mut walk = Walk::open(sheet(1, 3, &code, &[4, 5])).unwrap();
+    assert_eq!((walk.pc(), walk.depth(), walk.count()), (0, 0, 0));
+    assert_eq!((walk.locals(), walk.stack()), (&[4, 5, 0][..], &[][..]));
+    assert_eq!(walk.next_instruction(), "bipush -2");
+    assert_eq!(walk.forward(), Answer::Granted);
+    assert_eq!((walk.pc(), walk.depth(), walk.count()), (2, 1, 1));
+    assert_eq!(
+        (walk.locals(), walk.stack()),
+        (&[4, 5, 0][..], &[0xFFFF_FFFE][..])
+    );
+    assert_eq!(walk.next_instruction(), "istore_1");
+    assert_eq!(walk.forward(), Answer::Granted);
+    assert_eq!(
+        (walk.locals(), walk.stack()),
+        (&[4, 0xFFFF_FFFE, 0][..], &[][..])
+    );
+    // Popping changes no word, so the frame still has it above the top.
+    assert_eq!(walk.frame(), [4, 0xFFFF_FFFE, 0, 0xFFFF_FFFE]);
+    assert_eq!(walk.parts().code, code);
+}
+
+#[test]
+fn a_log_grows_as_far_as_the_walk_goes() {
+    let mut walk = Walk::open(sample("endless").sheet).unwrap();
+    let mut stages = vec![(walk.state(), walk.frame().to_vec())];
+    for _ in 0..1_000 {
+        assert_eq!(walk.forward(), Answer::Granted);
+        stages.push((walk.state(), walk.frame().to_vec()));
+    }
+    for (state, frame) in stages.iter().rev() {
+        assert_eq!((walk.state(), walk.frame()), (*state, &frame[..]));
+        let expected = if state.count == 0 {
+            refused(13)
+        } else {
+            Answer::Granted
+        };
+        assert_eq!(walk.back(), expected);
+    }
+}
+
+#[test]
+fn a_log_of_a_given_length_ends() {
+    for entries in [0, 1, 7, 65] {
+        let mut walk = Walk::open_with_log(sample("endless").sheet, entries).unwrap();
+        for _ in 0..entries {
+            assert_eq!(walk.forward(), Answer::Granted);
+        }
+        assert_eq!(walk.forward(), refused(12));
+        assert_eq!(walk.count(), entries as u64);
+    }
+}
+
+#[test]
+fn a_run_is_made_on_a_copy() {
+    for sample in accepted_samples() {
+        let start = Walk::open(sample.sheet).unwrap();
+        let mut walk = start.clone();
+        let mut steps = 0;
+        while steps < 50 && walk.forward() == Answer::Granted {
+            steps += 1;
+            let reached = start.run(steps);
+            assert_eq!((reached.ran.end, reached.ran.steps), (End::Stopped, steps));
+            assert_eq!(
+                (reached.state.pc, reached.state.depth),
+                (walk.pc(), walk.depth())
+            );
+            assert_eq!((&reached.frame[..], reached.state.count), (walk.frame(), 0));
+            assert_eq!((start.count(), walk.count()), (0, steps));
+        }
+        // From where the walk stands.
+        let rest = walk.run(65_535);
+        let whole = start.run(rest.ran.steps + steps);
+        assert_eq!(
+            (rest.state, rest.frame),
+            (whole.state, whole.frame),
+            "{}",
+            sample.name
+        );
+    }
+}
+
+#[test]
+fn walks_can_go_to_other_threads() {
+    let walks = [sample("loop"), sample("endless"), sample("ldc")];
+    let handles = walks.map(|sample| {
+        std::thread::spawn(move || {
+            let mut walk = Walk::open(sample.sheet).unwrap();
+            (0..40).map(|_| walk.forward()).collect::<Vec<_>>()
+        })
+    });
+    let [loops, endless, constants] = handles.map(|handle| handle.join().unwrap());
+    assert_eq!(loops.last(), Some(&Answer::Return(Value::Int(10))));
+    assert_eq!(endless.last(), Some(&Answer::Granted));
+    let double = Value::Double(0x4202_A06B_5506_0000);
+    assert_eq!(constants.last(), Some(&Answer::Return(double)));
+}
+
+#[test]
+fn a_method_of_the_largest_code_is_walked() {
+    // 65,534 NOPs, then RETURN.
+    let mut code = vec![0; 65_535];
+    code[65_534] = 0xB1;
+    let walk = Walk::open(sheet(0, 0, &code, &[])).unwrap();
+    let reached = walk.run(u64::MAX);
+    assert_eq!(
+        (reached.ran.end, reached.ran.steps),
+        (End::Return(Value::Void), 65_534)
+    );
+}
