@@ -1,6 +1,6 @@
 -- The families of the shared opcodes, each one function's, its last opcode first. Assumes nothing.
 use Prim.Native.Nat.{ℕ, _%_}
-use mathlib.Core.Bool.{cond}
+use mathlib.Core.Bool.{Bool, false, cond}
 use mathlib.Core.List.{List, [], _∷_, map}
 use lib.Dec.{ltb}
 use Rattle.rules.specs.Instructions.{instructions}
@@ -14,6 +14,10 @@ sharedOpcodes = map sharedOf instructions
 -- 0 to 3: an arithmetic opcode of ints, longs, floats, doubles
 abbrev pub arithmeticKind : ℕ → ℕ
 arithmeticKind n = cond (ltb n 120) (n % 4) (n % 2)
+
+-- IRETURN to RETURN
+abbrev pub isReturn : ℕ → Bool
+isReturn n = cond (ltb n 172) false (ltb n 178)
 
 -- ---- the families
 

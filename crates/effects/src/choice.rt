@@ -17,7 +17,7 @@ ghost use mathlib.Core.Bool.{true};
 ghost use Prim.Native.Nat.{ℕ, _≤_, _<_};
 ghost use Rattle.instructions.specs.Table.{isIn};
 ghost use Rattle.effects.specs.Effects.{effectAt};
-ghost use Rattle.effects.specs.Families.{sharedOpcodes, arithmeticKind};
+ghost use Rattle.effects.specs.Families.{sharedOpcodes, arithmeticKind, isReturn};
 
 // Constants, moves and the stack: the opcodes below 96.
 fn plain_effect(op: u8, constant: u32, a: u32, b: u32, c: u32, d: u32) -> Effect
@@ -60,20 +60,27 @@ fn arithmetic_effect(op: u8, constant: u32, a: u32, b: u32, c: u32, d: u32) -> E
     double_effect(op, a, b, c, d)
 }
 
+// Whether an opcode from 153 on returns.
+fn is_return(op: u8) -> bool
+    ensures { λ r. ⌜ r ≡ isReturn op ⌝ }
+{
+    if op < 172 {
+        return false;
+    }
+    op < 178
+}
+
 // Branches, switches, returns and WIDE: the opcodes from 153 on.
 fn control_effect(op: u8, a: u32, b: u32) -> Effect
     requires { ⌜ isIn sharedOpcodes op ≡ true ⌝ }
     requires { ⌜ 153 ≤ op ⌝ }
     ensures { λ r. ⌜ ((constant c d : ℕ) → r ≡ effectAt op constant a b c d) ⌝ }
 {
-    if op < 172 {
-        return branch_effect(op, a, b);
-    }
-    if op < 178 {
-        return return_effect(op, a, b);
-    }
     if op == 196 {
         return nothing();
+    }
+    if is_return(op) {
+        return return_effect(op, a, b);
     }
     branch_effect(op, a, b)
 }

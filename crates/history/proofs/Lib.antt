@@ -1,2 +1,3 @@
 mod Entries
+mod Forwards
 mod Replays

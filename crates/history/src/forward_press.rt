@@ -2,7 +2,7 @@
 use crate::undo_log::entries;
 use crate::undo_log::write_entry;
 use frame::commit;
-use interpreter::decide;
+use interpreter::advance;
 use interpreter::moved;
 use rules::Decision;
 use rules::Pressed;
@@ -52,7 +52,8 @@ pub fn forward(
 ) -> Press
     ensures { λ r. ⌜ pressed r (now (slots .exit)) (now (log .exit)) ≡ forwardOf (lent (now (code .entry)) (now (kinds .entry)) (now (words .entry))) s (now (slots .entry)) (now (log .entry)) ⌝ }
 {
-    let decision = decide(code, kinds, words, slots, s);
+    let reached = advance(code, kinds, words, slots, s, 0);
+    let decision = reached.decision;
     match decision {
         Decision::Ordinary(u) => grant(slots, log, s, u),
         Decision::Return(v) => Press {

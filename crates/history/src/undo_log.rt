@@ -8,7 +8,7 @@ ghost use Prim.Native.Nat.{_+_, _-_, _/_, _^_, _≤_, _<_};
 ghost use lib.ListN.{length, getD};
 ghost use lib.Seq.{paste};
 ghost use Rattle.rules.specs.Asked.{isPassed};
-ghost use Rattle.rules.specs.History.{entryAt, undoRecord, entryAsked, restored};
+ghost use Rattle.rules.specs.History.{entryAt, oldWords, undoRecord, entryAsked, restored};
 ghost use Rattle.history.specs.Left.{entryOf, takenBack};
 
 // How many whole entries the log has.
@@ -26,25 +26,35 @@ fn entry_at(n: u64) -> usize
     (10 * n) as usize
 }
 
+// One of the six old words of an undo record: the word of a place that is written, and 0 past those.
+fn old_word(slots: &[u32], first: usize, many: u32, i: usize) -> u32
+    requires { ⌜ (first + many ≤ length (now slots)) × (many ≤ 6) ⌝ }
+    ensures { λ r. ⌜ r ≡ getD (oldWords (now (slots .entry)) first many) i 0 ⌝ }
+{
+    if i < many as usize {
+        slots[first + i]
+    } else {
+        0
+    }
+}
+
 // Writes the undo record of a step that is to be taken, with the old words of the places that it writes.
 pub(crate) fn write_entry(slots: &[u32], log: &mut [u32], s: State, u: Update)
     requires { ⌜ (u .many ≤ 6) × (u .first + u .many ≤ length (now slots)) × (entryAt (s .count) + 10 ≤ length (now log)) ⌝ }
     ensures { λ _. ⌜ now (log .exit) ≡ paste (now (log .entry)) (entryAt (s .count)) (undoRecord (s .pc) (s .depth) (u .first) (u .many) (now (slots .entry))) 10 ⌝ }
 {
     let first = u.first as usize;
-    let mut old = [0u32; 6];
-    write_words(&mut old, 0, &slots[first..], u.many as usize);
     let entry = [
         s.pc,
         s.depth,
         u.first,
         u.many,
-        old[0],
-        old[1],
-        old[2],
-        old[3],
-        old[4],
-        old[5],
+        old_word(slots, first, u.many, 0),
+        old_word(slots, first, u.many, 1),
+        old_word(slots, first, u.many, 2),
+        old_word(slots, first, u.many, 3),
+        old_word(slots, first, u.many, 4),
+        old_word(slots, first, u.many, 5),
     ];
     let at = entry_at(s.count);
     write_words(log, at, &entry, 10);

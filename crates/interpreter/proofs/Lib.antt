@@ -5,4 +5,5 @@ mod Constants
 mod Decision
 mod Sources
 mod Answers
-mod Turn
+pub mod Steps
+mod Taken

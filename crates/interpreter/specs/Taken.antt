@@ -1,4 +1,4 @@
--- What a step and a run give, with the slots that they leave, as the rules have it. Assumes nothing.
+-- What steps and a run give, with the slots that they leave, as the rules have it. Assumes nothing.
 use Prim.Native.Nat.{ℕ}
 use mathlib.Core.List.{List}
 use Rattle.rules.specs.declared.State.{State}
@@ -8,8 +8,13 @@ use Rattle.rules.specs.declared.End.{End}
 use Rattle.rules.specs.declared.End.the-variants as End
 use Rattle.rules.specs.Step as step
 use Rattle.rules.specs.Run as run
+use Rattle.interpreter.specs.Advance as advance
+use Rattle.interpreter.specs.declared.advancing.Reached.{Reached}
 use Rattle.interpreter.specs.declared.stepping.Stepped.{Stepped}
 use Rattle.interpreter.specs.declared.running.Ran.{Ran}
+
+abbrev pub reached : Reached → List ℕ → advance.Reached
+reached r slots = advance.stands (r .state) (r .steps) slots (r .decision)
 
 abbrev pub stepped : Stepped → List ℕ → step.Stepped
 stepped r slots = record { state = r .state; decision = r .decision; slots = slots }

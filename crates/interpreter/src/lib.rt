@@ -1,10 +1,13 @@
 // The interpreter loop (interpreter.rs): one step decided, one step taken, and a run of steps.
+mod advancing;
 mod deciding;
 mod finishing;
 mod reading;
 mod running;
 mod stepping;
 
+pub use advancing::Reached;
+pub use advancing::advance;
 pub use deciding::decide;
 pub use running::Ran;
 pub use running::run;

@@ -27,11 +27,19 @@ fn word_at(slots: &[u32], place: usize) -> u32
     if place < slots.len() { slots[place] } else { 0 }
 }
 
-// Four words from a place on.
+// Four words from a place on: nearly always all are there.
 fn four_at(slots: &[u32], place: u32) -> Four
     ensures { λ r. ⌜ r ≡ fourAt (now (slots .entry)) place ⌝ }
 {
     let at = place as usize;
+    if at + 4 <= slots.len() {
+        return Four {
+            a: slots[at],
+            b: slots[at + 1],
+            c: slots[at + 2],
+            d: slots[at + 3],
+        };
+    }
     let a = word_at(slots, at);
     let b = word_at(slots, at + 1);
     let c = word_at(slots, at + 2);

@@ -1,5 +1,5 @@
 // A run: ordinary steps, one after the other, up to a budget.
-use crate::deciding::decide_framed;
+use crate::advancing::advance_framed;
 use crate::stepping::moved;
 use frame::FrameAsked;
 use frame::ask_frame;
@@ -40,7 +40,7 @@ fn ended(s: State, steps: u64, end: End) -> Ran
     Ran { state, steps, end }
 }
 
-// At most budget steps, where questions 1 to 3 have passed. They stay passed, and are asked no more.
+// At most budget steps, where questions 1 to 3 have passed: all but the last, and then the last. With no budget left there is no further look.
 fn run_framed(
     code: &[u8],
     kinds: &[u8],
@@ -52,19 +52,19 @@ fn run_framed(
     requires { ⌜ frameAsked (lent (now code) (now kinds) (now words)) s (now slots) ≡ passed tt ⌝ }
     ensures { λ r. ⌜ ran r (now (slots .exit)) ≡ runFrom (lent (now (code .entry)) (now (kinds .entry)) (now (words .entry))) budget 0 s (now (slots .entry)) ⌝ }
 {
-    let mut t = s;
-    let mut steps: u64 = 0;
-    while steps < budget {
-        let decision = decide_framed(code, kinds, words, slots, t);
-        let Decision::Ordinary(u) = decision else {
-            let end = end_of(decision);
-            return ended(t, steps, end);
-        };
-        commit(slots, t, u);
-        t = moved(t, u.pc, u.depth, 0);
-        steps += 1;
+    if budget == 0 {
+        return ended(s, 0, End::Stopped);
     }
-    ended(t, steps, End::Stopped)
+    let reached = advance_framed(code, kinds, words, slots, s, budget - 1);
+    let t = reached.state;
+    let decision = reached.decision;
+    let Decision::Ordinary(u) = decision else {
+        let end = end_of(decision);
+        return ended(t, reached.steps, end);
+    };
+    commit(slots, t, u);
+    let last = moved(t, u.pc, u.depth, 0);
+    ended(last, reached.steps + 1, End::Stopped)
 }
 
 // A run on any code, pool, slots and state: questions 1 to 3 come first, also with budget 0.

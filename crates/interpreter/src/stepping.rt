@@ -1,5 +1,5 @@
 // One step, taken: decided, and then written in one place.
-use crate::deciding::decide;
+use crate::advancing::advance;
 use frame::commit;
 use rules::Decision;
 use rules::State;
@@ -31,7 +31,8 @@ pub fn moved(s: State, pc: u32, depth: u32, count: u64) -> State
 pub fn step(code: &[u8], kinds: &[u8], words: &[u32], slots: &mut [u32], s: State) -> Stepped
     ensures { λ r. ⌜ stepped r (now (slots .exit)) ≡ stepOf (lent (now (code .entry)) (now (kinds .entry)) (now (words .entry))) s (now (slots .entry)) ⌝ }
 {
-    let decision = decide(code, kinds, words, slots, s);
+    let reached = advance(code, kinds, words, slots, s, 0);
+    let decision = reached.decision;
     let Decision::Ordinary(u) = decision else {
         return Stepped { state: s, decision };
     };

@@ -1,24 +1,25 @@
 -- `forward` meets its contract. Assumes nothing.
+use mathlib.Core.Path.{_∙_}
 use denote.Ref.{now}
 use Rattle.rules.specs.Questions.{lent}
-use mathlib.Core.Path.{sym, _∙_}
 use Rattle.rules.proofs.Legal.{ordinary-legal}
-use Rattle.rules.proofs.History.{forward-by}
+use Rattle.interpreter.proofs.Steps.{ordinary-there}
+use Rattle.history.proofs.Forwards.{forward-there}
 use borrow.Author.Needs.{needs}
 use Rattle.history.proofs.forward_press.forward.Statement.{statement}
 use Rattle.history.proofs.forward_press.forward.Tie as tie
 
-decide-requires : tie.Need-decide-requires
-decide-requires c κs = search needs
+advance-requires : tie.Need-advance-requires
+advance-requires c κs = search needs
 
 enum-known-decision : tie.Need-enum-known-decision
 enum-known-decision c = search needs
 
 grant-requires : tie.Need-grant-requires
 grant-requires c κs =
-    let a = c .before .before .before .before .before .before .before .before .before .before .before .before .args in
+    let a = c .before .before .before .before .before .before .before .before .before .before .before .before .before .before .args in
     let l = lent (now (a .code)) (now (a .kinds)) (now (a .words)) in
-    let k = ordinary-legal l (a .s) (now (a .slots)) _ (sym (c .before .before .before .before .before .decide .ensures) ∙ c .before .before .before .decision .given .1) in
+    let k = ordinary-legal l (a .s) _ _ (ordinary-there l (a .s) (now (a .slots)) _ (c .before .before .before .before .before .before .before .advance .ensures) _ (c .before .before .before .decision .given .1)) in
     (k .few, k .within, k .frame-there .room)
 
 enum-known-decision-2 : tie.Need-enum-known-decision-2
@@ -38,42 +39,42 @@ same-length-2 c = search needs
 
 returns : tie.Need-returns
 returns c =
-    let a = c .before .before .before .before .before .before .before .before .before .before .before .before .before .before .before .before .before .args in
+    let a = c .before .before .before .before .before .before .before .before .before .before .before .before .before .before .before .before .before .before .before .args in
     let l = lent (now (a .code)) (now (a .kinds)) (now (a .words)) in
-    c .before .before .before .before .grant .ensures ∙ sym (forward-by (a .s) (now (a .slots)) (now (a .log)) l _ (sym (c .before .before .before .before .before .before .before .before .before .before .decide .ensures) ∙ c .before .before .before .before .before .before .before .before .decision .given .1))
+    c .before .before .before .before .grant .ensures ∙ forward-there l (a .s) (now (a .slots)) (now (a .log)) _ (c .before .before .before .before .before .before .before .before .before .before .before .before .advance .ensures) _ (c .before .before .before .before .before .before .before .before .decision .given .1)
 
 same-length-3 : tie.Need-same-length-3
 same-length-3 c = search needs
 
 returns-2 : tie.Need-returns-2
 returns-2 c =
-    let a = c .before .before .before .before .before .before .before .before .before .before .args in
+    let a = c .before .before .before .before .before .before .before .before .before .before .before .before .args in
     let l = lent (now (a .code)) (now (a .kinds)) (now (a .words)) in
-    sym (forward-by (a .s) (now (a .slots)) (now (a .log)) l _ (sym (c .before .before .before .decide .ensures) ∙ c .before .decision2 .given .1))
+    forward-there l (a .s) (now (a .slots)) (now (a .log)) _ (c .before .before .before .before .before .advance .ensures) _ (c .before .decision2 .given .1)
 
 same-length-4 : tie.Need-same-length-4
 same-length-4 c = search needs
 
 returns-3 : tie.Need-returns-3
 returns-3 c =
-    let a = c .before .before .before .before .before .before .before .before .before .args in
+    let a = c .before .before .before .before .before .before .before .before .before .before .before .args in
     let l = lent (now (a .code)) (now (a .kinds)) (now (a .words)) in
-    sym (forward-by (a .s) (now (a .slots)) (now (a .log)) l _ (sym (c .before .before .decide .ensures) ∙ c .enum-told .given .1))
+    forward-there l (a .s) (now (a .slots)) (now (a .log)) _ (c .before .before .before .before .advance .ensures) _ (c .enum-told .given .1)
 
 same-length-5 : tie.Need-same-length-5
 same-length-5 c = search needs
 
 returns-4 : tie.Need-returns-4
 returns-4 c =
-    let a = c .before .before .before .before .before .before .before .before .before .before .args in
+    let a = c .before .before .before .before .before .before .before .before .before .before .before .before .args in
     let l = lent (now (a .code)) (now (a .kinds)) (now (a .words)) in
-    sym (forward-by (a .s) (now (a .slots)) (now (a .log)) l _ (sym (c .before .before .before .decide .ensures) ∙ c .before .decision3 .given .1))
+    forward-there l (a .s) (now (a .slots)) (now (a .log)) _ (c .before .before .before .before .before .advance .ensures) _ (c .before .decision3 .given .1)
 
 pub forward-spec : {M : Type 1} → statement M
 forward-spec =
     tie.close
     (tie.spec
-    decide-requires
+    advance-requires
     enum-known-decision
     grant-requires
     enum-known-decision-2

@@ -3,7 +3,7 @@ use mathlib.Core.Path.{sym, _∙_}
 use denote.Ref.{now}
 use Rattle.rules.specs.Questions.{lent}
 use Rattle.frame.proofs.FrameAnswers.{frame-passed, frame-refused}
-use Rattle.interpreter.proofs.Turn.{told, refused-run, passed-run}
+use Rattle.interpreter.proofs.Taken.{told, refused-run, passed-run}
 use borrow.Author.Needs.{needs}
 use Rattle.interpreter.proofs.running.run.Statement.{statement}
 use Rattle.interpreter.proofs.running.run.Tie as tie

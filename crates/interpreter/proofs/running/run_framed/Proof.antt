@@ -1,96 +1,88 @@
--- `run_framed` meets its contract. The loop's invariant is `Going`; the measure is what is left of the budget. Assumes nothing.
-use Prim.Native.Nat.{_-_}
-use mathlib.Core.Path.{refl, sym, _∙_}
+-- `run_framed` meets its contract. Assumes nothing.
+use mathlib.Core.Path.{sym, _∙_}
 use native.Mathlib.Omega.{arith}
-use native.Mathlib.Nat.{sub-zero}
+use denote.Ref.{now}
 use Rattle.rules.specs.Questions.{lent}
 use Rattle.rules.proofs.Legal.{ordinary-legal}
-use Rattle.interpreter.proofs.Turn.{Going, turn, ends-there, stops}
+use Rattle.interpreter.proofs.Taken.{no-budget, ordinary-last, ends-stopped, ends-other}
 use borrow.Author.Needs.{needs}
 use Rattle.interpreter.proofs.running.run_framed.Statement.{statement}
 use Rattle.interpreter.proofs.running.run_framed.Tie as tie
 
-abbrev Inv-loop : tie.InvT-loop
-Inv-loop code kinds words slots₀ budget t₀ steps₀ slots t steps = Going (lent code kinds words) slots₀ budget t₀ slots t steps
-
-abbrev μ-loop : tie.MeasureT-loop
-μ-loop code kinds words slots₀ budget t₀ steps₀ slots t steps = budget - steps
-
-loop-holds : tie.Need-loop-holds Inv-loop μ-loop
-loop-holds c =
-    let a = c .before .before .before .before .args in
-    record { upto = omega arith; long = refl; framed = c .before .before .before .before .pre; rest = rw (sub-zero (a .budget)) }
-
-decide-framed-requires : tie.Need-decide-framed-requires Inv-loop μ-loop
-decide-framed-requires c κs = c .before .before .loop .inv .framed
-
-enum-known-decision : tie.Need-enum-known-decision Inv-loop μ-loop
-enum-known-decision c = search needs
-
-end-of-requires : tie.Need-end-of-requires Inv-loop μ-loop
-end-of-requires c κs = search needs
-
-ended-requires : tie.Need-ended-requires Inv-loop μ-loop
+ended-requires : tie.Need-ended-requires
 ended-requires c κs = search needs
 
-same-length : tie.Need-same-length Inv-loop μ-loop
-same-length c = c .before .before .before .before .before .before .loop .inv .long
-
-returns : tie.Need-returns Inv-loop μ-loop
+returns : tie.Need-returns
 returns c =
-    let t = c .before .before .before .before .before .before .loop in
-    rw (c .ended .ensures, c .before .end-of .ensures) (ends-there _ _ _ _ (t .slots) (t .t) (t .steps) (t .inv) (c .before .before .before .before .before .loop-test .taken) _ (sym (c .before .before .before .decide-framed .ensures)) (c .before .before .match .keys2))
+    let a = c .before .before .before .before .before .before .args in
+    let l = lent (now (a .code)) (now (a .kinds)) (now (a .words)) in
+    rw (c .ended .ensures) (no-budget l (a .budget) (a .s) (now (a .slots)) (c .before .if1 .taken))
 
-commit-requires : tie.Need-commit-requires Inv-loop μ-loop
-commit-requires c κs =
-    let t = c .before .before .before .before .before .before .before .loop in
-    let k = ordinary-legal _ (t .t) (t .slots) _ (sym (c .before .before .before .before .decide-framed .ensures) ∙ c .before .before .decision .given .1) in
-    (k .few, k .within, k .frame-there .room)
+sub-advance-framed : tie.Need-sub-advance-framed
+sub-advance-framed c = search needs
 
-moved-requires : tie.Need-moved-requires Inv-loop μ-loop
-moved-requires c κs = search needs
+advance-framed-requires : tie.Need-advance-framed-requires
+advance-framed-requires c κs = search needs
 
-add-steps : tie.Need-add-steps Inv-loop μ-loop
-add-steps c = omega (arith, c .before .before .before .before .before .before .before .before .before .before .loop-test .taken, c .before .before .before .before .before .before .before .before .before .before .before .before .before .before .before .before .fits .budget)
+enum-known-decision : tie.Need-enum-known-decision
+enum-known-decision c = search needs
 
-loop-less : tie.Need-loop-less Inv-loop μ-loop
-loop-less c = omega (arith, c .before .before .before .before .before .before .before .before .before .before .loop-test .taken)
+end-of-requires : tie.Need-end-of-requires
+end-of-requires c κs = search needs
 
-loop-again : tie.Need-loop-again Inv-loop μ-loop
-loop-again c =
-    let t = c .before .before .before .before .before .before .before .before .before .before .before .loop in
-    rw (c .moved .ensures, c .before .before .before .commit .ensures)
-    (turn _ _ _ _ (t .slots) (t .t) (t .steps) (t .inv) (c .before .before .before .before .before .before .before .before .before .before .loop-test .taken) _ (sym (c .before .before .before .before .before .before .before .before .decide-framed .ensures) ∙ c .before .before .before .before .before .before .decision .given .1))
-
-ended-requires-2 : tie.Need-ended-requires-2 Inv-loop μ-loop
+ended-requires-2 : tie.Need-ended-requires-2
 ended-requires-2 c κs = search needs
 
-same-length-2 : tie.Need-same-length-2 Inv-loop μ-loop
-same-length-2 c = c .before .before .loop .inv .long
+same-length : tie.Need-same-length
+same-length c = search needs
 
-returns-2 : tie.Need-returns-2 Inv-loop μ-loop
+returns-2 : tie.Need-returns-2
 returns-2 c =
-    let t = c .before .before .loop in
-    rw (c .ended2 .ensures) (stops _ _ _ _ (t .slots) (t .t) (t .steps) (t .inv) (c .before .loop-test .left))
+    let a = c .before .before .before .before .before .before .before .before .before .before .before .before .before .args in
+    let l = lent (now (a .code)) (now (a .kinds)) (now (a .words)) in
+    rw (c .ended2 .ensures, c .before .end-of .ensures) (ends-other l (a .budget) (a .s) (now (a .slots)) (c .before .before .before .before .before .before .before .before .if1 .left) _ (c .before .before .before .before .before .before .advance-framed .ensures .0) (c .before .before .match .keys2))
+
+commit-requires : tie.Need-commit-requires
+commit-requires c κs =
+    let a = c .before .before .before .before .before .before .before .before .before .before .before .before .before .before .args in
+    let l = lent (now (a .code)) (now (a .kinds)) (now (a .words)) in
+    let k = ordinary-legal l _ _ _ (ordinary-last l (a .budget) (a .s) (now (a .slots)) (c .before .before .before .before .before .before .before .before .before .if1 .left) _ (c .before .before .before .before .before .before .before .advance-framed .ensures .0) _ (c .before .before .decision .given .1)) in
+    (k .few, k .within, k .frame-there .room)
+
+moved-requires : tie.Need-moved-requires
+moved-requires c κs = search needs
+
+add-ended : tie.Need-add-ended
+add-ended c = omega (arith, c .before .before .before .before .before .before .before .before .before .before .before .before .advance-framed .ensures .1, c .before .before .before .before .before .before .before .before .before .before .before .before .before .before .if1 .left, c .before .before .before .before .before .before .before .before .before .before .before .before .before .before .before .before .before .before .before .fits .budget)
+
+ended-requires-3 : tie.Need-ended-requires-3
+ended-requires-3 c κs = search needs
+
+same-length-2 : tie.Need-same-length-2
+same-length-2 c = search needs
+
+returns-3 : tie.Need-returns-3
+returns-3 c =
+    let a = c .before .before .before .before .before .before .before .before .before .before .before .before .before .before .before .before .before .before .before .before .args in
+    let l = lent (now (a .code)) (now (a .kinds)) (now (a .words)) in
+    rw (c .ended3 .ensures, c .before .before .moved .ensures, c .before .before .before .before .before .commit .ensures) (ends-stopped l (a .budget) (a .s) (now (a .slots)) (c .before .before .before .before .before .before .before .before .before .before .before .before .before .before .before .if1 .left) _ (c .before .before .before .before .before .before .before .before .before .before .before .before .before .advance-framed .ensures .0) _ (c .before .before .before .before .before .before .before .before .decision .given .1))
 
 pub run-framed-spec : {M : Type 1} → statement M
 run-framed-spec =
     tie.close
     (tie.spec
-    Inv-loop
-    μ-loop
-    loop-holds
-    decide-framed-requires
+    ended-requires
+    returns
+    sub-advance-framed
+    advance-framed-requires
     enum-known-decision
     end-of-requires
-    ended-requires
+    ended-requires-2
     same-length
-    returns
+    returns-2
     commit-requires
     moved-requires
-    add-steps
-    loop-less
-    loop-again
-    ended-requires-2
+    add-ended
+    ended-requires-3
     same-length-2
-    returns-2)
+    returns-3)

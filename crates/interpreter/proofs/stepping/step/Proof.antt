@@ -1,15 +1,15 @@
 -- `step` meets its contract. Assumes nothing.
-use mathlib.Core.Path.{sym, _∙_}
 use denote.Ref.{now}
 use Rattle.rules.specs.Questions.{lent}
 use Rattle.rules.proofs.Legal.{ordinary-legal}
-use Rattle.interpreter.proofs.Turn.{step-ordinary, step-other}
+use Rattle.interpreter.proofs.Steps.{ordinary-there}
+use Rattle.interpreter.proofs.Taken.{step-ordinary, step-other}
 use borrow.Author.Needs.{needs}
 use Rattle.interpreter.proofs.stepping.step.Statement.{statement}
 use Rattle.interpreter.proofs.stepping.step.Tie as tie
 
-decide-requires : tie.Need-decide-requires
-decide-requires c κs = search needs
+advance-requires : tie.Need-advance-requires
+advance-requires c κs = search needs
 
 enum-known-decision : tie.Need-enum-known-decision
 enum-known-decision c = search needs
@@ -19,15 +19,15 @@ same-length c = search needs
 
 returns : tie.Need-returns
 returns c =
-    let a = c .before .before .before .before .before .before .before .args in
+    let a = c .before .before .before .before .before .before .before .before .before .args in
     let l = lent (now (a .code)) (now (a .kinds)) (now (a .words)) in
-    sym (step-other l (a .s) (now (a .slots)) _ (sym (c .before .decide .ensures)) (c .match .keys2))
+    step-other l (a .s) (now (a .slots)) _ (c .before .before .before .advance .ensures) (c .match .keys2)
 
 commit-requires : tie.Need-commit-requires
 commit-requires c κs =
-    let a = c .before .before .before .before .before .before .before .before .before .before .args in
+    let a = c .before .before .before .before .before .before .before .before .before .before .before .before .args in
     let l = lent (now (a .code)) (now (a .kinds)) (now (a .words)) in
-    let k = ordinary-legal l (a .s) (now (a .slots)) _ (sym (c .before .before .before .before .decide .ensures) ∙ c .before .before .decision .given .1) in
+    let k = ordinary-legal l (a .s) _ _ (ordinary-there l (a .s) (now (a .slots)) _ (c .before .before .before .before .before .before .advance .ensures) _ (c .before .before .decision .given .1)) in
     (k .few, k .within, k .frame-there .room)
 
 moved-requires : tie.Need-moved-requires
@@ -38,16 +38,15 @@ same-length-2 c = search needs
 
 returns-2 : tie.Need-returns-2
 returns-2 c =
-    let a = c .before .before .before .before .before .before .before .before .before .before .before .before .before .before .args in
+    let a = c .before .before .before .before .before .before .before .before .before .before .before .before .before .before .before .before .args in
     let l = lent (now (a .code)) (now (a .kinds)) (now (a .words)) in
-    let e = sym (c .before .before .before .before .before .before .before .before .decide .ensures) ∙ c .before .before .before .before .before .before .decision .given .1 in
-    rw (c .moved .ensures, c .before .before .before .commit .ensures) (sym (step-ordinary l (a .s) (now (a .slots)) _ e))
+    rw (c .moved .ensures, c .before .before .before .commit .ensures) (step-ordinary l (a .s) (now (a .slots)) _ (c .before .before .before .before .before .before .before .before .before .before .advance .ensures) _ (c .before .before .before .before .before .before .decision .given .1))
 
 pub step-spec : {M : Type 1} → statement M
 step-spec =
     tie.close
     (tie.spec
-    decide-requires
+    advance-requires
     enum-known-decision
     same-length
     returns

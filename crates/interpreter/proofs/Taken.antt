@@ -1,0 +1,124 @@
+-- A step and a run, by where their ordinary steps led and what the rules decide there. Assumes nothing.
+use Prim.Native.Nat.{ℕ, zero, suc, _+_, _-_}
+use mathlib.Core.Path.{_≡_, refl, sym, ap, subst, _∙_}
+use mathlib.Core.List.{List}
+use mathlib.Core.Logic.{⊎-elim, inl, inr}
+use native.Mathlib.Omega.{arith}
+use native.Mathlib.Numerals.{add-one}
+use Rattle.rules.specs.declared.State.{State}
+use Rattle.rules.specs.declared.Update.{Update}
+use Rattle.rules.specs.declared.Decision.{Decision}
+use Rattle.rules.specs.declared.Decision.the-variants.{Ordinary, Return, Throw, Refused}
+use Rattle.rules.specs.declared.End.the-variants as End
+use Rattle.rules.specs.Asked.{passed, refused}
+use Rattle.rules.specs.Questions.{Lent, frameAsked}
+use Rattle.rules.specs.Step.{decideOf, moved, written, stepBy, stepOf}
+use Rattle.rules.specs.Run.{Ran, ends, runFrom, runOf, Told}
+use Rattle.rules.proofs.Step.{run-ordinary, run-return, run-throw, run-refused, run-stopped}
+use Rattle.rules.proofs.Run.{run-told}
+use Rattle.interpreter.specs.Advance.{Reached, advanceFrom}
+use Rattle.interpreter.specs.Taken.{endOf}
+use Rattle.interpreter.proofs.Steps.{Other, advance-ordinary, advance-other, advance-none, decided-there, slots-there}
+
+-- ---- a step: no step before it
+
+module _ (l : Lent) (s : State) (slots : List ℕ) (r : Reached) (e : r ≡ advanceFrom l 0 0 s slots) where
+  step-by : stepBy s (r .slots) (r .decision) ≡ stepOf l s slots
+  unfolding stepOf
+  step-by = rw (slots-there l s slots r e, decided-there l s slots r e)
+
+  pub step-ordinary : (u : Update) → r .decision ≡ Ordinary u → record { state = moved s (u .pc) (u .depth) 0; decision = Ordinary u; slots = written u (r .slots) } ≡ stepOf l s slots
+  step-ordinary u h = ap (stepBy s (r .slots)) (sym h) ∙ step-by
+
+  pub step-other : Other (r .decision) → record { state = s; decision = r .decision; slots = r .slots } ≡ stepOf l s slots
+  step-other h = go (r .decision) h ∙ step-by
+    where
+      go : (d : Decision) → Other d → record { state = s; decision = d; slots = r .slots } ≡ stepBy s (r .slots) d
+      go (Ordinary u) o = absurd (⊎-elim (λ z. omega arith) (⊎-elim (λ z. omega arith) (λ z. omega arith)) o)
+      go (Return v) o = refl
+      go Throw o = refl
+      go (Refused n) o = refl
+
+-- ---- a run: all its steps but the last, and the last
+
+abbrev lastStep : State → ℕ → List ℕ → Decision → Ran
+lastStep s n slots (Ordinary u) = ends (moved s (u .pc) (u .depth) 0) (written u slots) (suc n) End.Stopped
+lastStep s n slots (Return v) = ends s slots n (End.Return v)
+lastStep s n slots Throw = ends s slots n End.Throw
+lastStep s n slots (Refused k) = ends s slots n (End.Refused k)
+
+abbrev lastOf : Reached → Ran
+lastOf r = lastStep (r .state) (r .steps) (r .slots) (r .decision)
+
+last-other : (s : State) (n : ℕ) (slots : List ℕ) (d : Decision) → Other d → lastStep s n slots d ≡ ends s slots n (endOf d)
+last-other s n slots (Ordinary u) h = absurd (⊎-elim (λ z. omega arith) (⊎-elim (λ z. omega arith) (λ z. omega arith)) h)
+last-other s n slots (Return v) h = refl
+last-other s n slots Throw h = refl
+last-other s n slots (Refused k) h = refl
+
+module _ (l : Lent) where
+  run-one : (n : ℕ) (s : State) (slots : List ℕ) (d : Decision) → decideOf l s slots ≡ d → runFrom l 1 n s slots ≡ lastStep s n slots d
+  run-one n s slots (Ordinary u) e = run-ordinary l 0 n s slots u e ∙ run-stopped l (suc n) (moved s (u .pc) (u .depth) 0) (written u slots)
+  run-one n s slots (Return v) e = run-return l 0 n s slots v e
+  run-one n s slots Throw e = run-throw l 0 n s slots e
+  run-one n s slots (Refused k) e = run-refused l 0 n s slots k e
+
+  run-last : (most n : ℕ) (s : State) (slots : List ℕ) → runFrom l (suc most) n s slots ≡ lastOf (advanceFrom l most n s slots)
+  run-last zero n s slots = run-one n s slots _ refl ∙ ap lastOf (sym (advance-none l n s slots))
+  run-last (suc most) n s slots = go (decideOf l s slots) refl (λ u. run-last most (suc n) (moved s (u .pc) (u .depth) 0) (written u slots))
+    where
+      go : (d : Decision) → decideOf l s slots ≡ d
+          → ((u : Update) → runFrom l (suc most) (suc n) (moved s (u .pc) (u .depth) 0) (written u slots) ≡ lastOf (advanceFrom l most (suc n) (moved s (u .pc) (u .depth) 0) (written u slots)))
+          → runFrom l (suc (suc most)) n s slots ≡ lastOf (advanceFrom l (suc most) n s slots)
+      go (Ordinary u) e h = run-ordinary l (suc most) n s slots u e ∙ h u ∙ ap lastOf (sym (advance-ordinary l n s slots most u e))
+      go (Return v) e h = run-return l (suc most) n s slots v e ∙ ap lastOf (sym (advance-other l n s slots (suc most) (Return v) e (inl refl)))
+      go Throw e h = run-throw l (suc most) n s slots e ∙ ap lastOf (sym (advance-other l n s slots (suc most) Throw e (inr (inl refl))))
+      go (Refused k) e h = run-refused l (suc most) n s slots k e ∙ ap lastOf (sym (advance-other l n s slots (suc most) (Refused k) e (inr (inr refl))))
+
+  -- the decision is that of the rules where the steps end
+  decides-there : (most n : ℕ) (s : State) (slots : List ℕ) → let r = advanceFrom l most n s slots in r .decision ≡ decideOf l (r .state) (r .slots)
+  decides-there zero n s slots = rw (advance-none l n s slots)
+  decides-there (suc most) n s slots = go (decideOf l s slots) refl (λ u. decides-there most (suc n) (moved s (u .pc) (u .depth) 0) (written u slots))
+    where
+      go : (d : Decision) → decideOf l s slots ≡ d
+          → ((u : Update) → let r = advanceFrom l most (suc n) (moved s (u .pc) (u .depth) 0) (written u slots) in r .decision ≡ decideOf l (r .state) (r .slots))
+          → let r = advanceFrom l (suc most) n s slots in r .decision ≡ decideOf l (r .state) (r .slots)
+      go (Ordinary u) e h = rw (advance-ordinary l n s slots most u e) (h u)
+      go (Return v) e h = rw (advance-other l n s slots (suc most) (Return v) e (inl refl)) (sym e)
+      go Throw e h = rw (advance-other l n s slots (suc most) Throw e (inr (inl refl))) (sym e)
+      go (Refused k) e h = rw (advance-other l n s slots (suc most) (Refused k) e (inr (inr refl))) (sym e)
+
+-- a run with a budget, from where all its steps but the last led
+module _ (l : Lent) (budget : ℕ) (s : State) (slots : List ℕ) where
+  pub no-budget : budget ≡ 0 → ends s slots 0 End.Stopped ≡ runFrom l budget 0 s slots
+  no-budget h = sym (run-stopped l 0 s slots) ∙ ap (λ (b : ℕ). runFrom l b 0 s slots) (sym h)
+
+  module _ (some-budget : budget ≡ 0 → ⊥) (r : Reached) (e : r ≡ advanceFrom l (budget - 1) 0 s slots) where
+    run-by : lastOf r ≡ runFrom l budget 0 s slots
+    run-by =
+        let whole : suc (budget - 1) ≡ budget = omega (arith, some-budget) in
+        ap lastOf e ∙ sym (run-last l (budget - 1) 0 s slots) ∙ ap (λ (b : ℕ). runFrom l b 0 s slots) whole
+
+    pub ordinary-last : (u : Update) → r .decision ≡ Ordinary u → decideOf l (r .state) (r .slots) ≡ Ordinary u
+    ordinary-last u h = sym (rw e (decides-there l (budget - 1) 0 s slots)) ∙ h
+
+    pub ends-stopped : (u : Update) → r .decision ≡ Ordinary u → ends (moved (r .state) (u .pc) (u .depth) 0) (written u (r .slots)) (r .steps + 1) End.Stopped ≡ runFrom l budget 0 s slots
+    ends-stopped u h = rw (add-one (r .steps)) (ap (lastStep (r .state) (r .steps) (r .slots)) (sym h) ∙ run-by)
+
+    pub ends-other : Other (r .decision) → ends (r .state) (r .slots) (r .steps) (endOf (r .decision)) ≡ runFrom l budget 0 s slots
+    ends-other h = sym (last-other (r .state) (r .steps) (r .slots) (r .decision) h) ∙ run-by
+
+-- ---- a whole run
+
+module _ (l : Lent) (budget : ℕ) (s : State) (slots : List ℕ) where
+  -- what is the rules' run says of itself what they say
+  pub told : (r : Ran) → r ≡ runOf l budget s slots → (r ≡ runOf l budget s slots) × Told l budget s slots r
+  told r e = (e, subst (Told l budget s slots) (sym e) (run-told l budget s slots))
+
+  pub refused-run : (k : ℕ) → frameAsked l s slots ≡ refused k → record { state = s; steps = 0; end = End.Refused k; slots = slots } ≡ runOf l budget s slots
+  unfolding runOf
+  refused-run k e = rw e
+
+  pub passed-run : frameAsked l s slots ≡ passed tt → runFrom l budget 0 s slots ≡ runOf l budget s slots
+  unfolding runOf
+  passed-run e = rw e

@@ -1,0 +1,81 @@
+// Ordinary steps, one after the other, and the decision of the next. A step, a press of forward and a run all come through here, so that the
+// decision of a step is compiled into one loop.
+use crate::deciding::decide_framed;
+use crate::stepping::moved;
+use frame::FrameAsked;
+use frame::ask_frame;
+use frame::commit;
+use rules::Decision;
+use rules::State;
+ghost use mathlib.Core.Path.{_≡_};
+ghost use Prim.Native.Nat.{_≤_};
+ghost use Rattle.rules.specs.Asked.{passed};
+ghost use Rattle.rules.specs.Questions.{lent, frameAsked};
+ghost use Rattle.interpreter.specs.Advance.{advanceFrom};
+ghost use Rattle.interpreter.specs.Taken.{reached};
+
+// The state that ordinary steps led to, how many they were, and what the next step comes to; nothing of that is written.
+pub struct Reached {
+    pub state: State,
+    pub steps: u64,
+    pub decision: Decision,
+}
+
+// At most so many steps, where questions 1 to 3 have passed. They stay passed, and are asked no more.
+pub(crate) fn advance_framed(
+    code: &[u8],
+    kinds: &[u8],
+    words: &[u32],
+    slots: &mut [u32],
+    s: State,
+    most: u64,
+) -> Reached
+    requires { ⌜ frameAsked (lent (now code) (now kinds) (now words)) s (now slots) ≡ passed tt ⌝ }
+    ensures { λ r. ⌜ reached r (now (slots .exit)) ≡ advanceFrom (lent (now (code .entry)) (now (kinds .entry)) (now (words .entry))) most 0 s (now (slots .entry)) ⌝ }
+    ensures { λ r. ⌜ r .steps ≤ most ⌝ }
+{
+    let mut t = s;
+    let mut steps: u64 = 0;
+    loop {
+        let decision = decide_framed(code, kinds, words, slots, t);
+        let Decision::Ordinary(u) = decision else {
+            return Reached {
+                state: t,
+                steps,
+                decision,
+            };
+        };
+        if steps == most {
+            return Reached {
+                state: t,
+                steps,
+                decision,
+            };
+        }
+        commit(slots, t, u);
+        t = moved(t, u.pc, u.depth, 0);
+        steps += 1;
+    }
+}
+
+// At most so many steps on any code, pool, slots and state; with 0, the decision alone.
+pub fn advance(
+    code: &[u8],
+    kinds: &[u8],
+    words: &[u32],
+    slots: &mut [u32],
+    s: State,
+    most: u64,
+) -> Reached
+    ensures { λ r. ⌜ reached r (now (slots .exit)) ≡ advanceFrom (lent (now (code .entry)) (now (kinds .entry)) (now (words .entry))) most 0 s (now (slots .entry)) ⌝ }
+{
+    let asked = ask_frame(code, kinds, words, slots, s);
+    match asked {
+        FrameAsked::Refused(n) => Reached {
+            state: s,
+            steps: 0,
+            decision: Decision::Refused(n),
+        },
+        FrameAsked::Passed => advance_framed(code, kinds, words, slots, s, most),
+    }
+}
