@@ -1,0 +1,63 @@
+import java.io.ByteArrayOutputStream;
+import java.io.DataOutputStream;
+import java.io.IOException;
+import java.util.List;
+
+/**
+ * A method with its arguments.
+ *
+ * @param stack max_stack
+ * @param locals max_locals
+ * @param code the bytes
+ * @param pool the constants, their indices rising
+ * @param kinds the kinds of the arguments
+ * @param arguments their bits; a reference is its word, 0 for null
+ * @param result the kind that is returned, V for void
+ * @param forms the forms of the stack instructions in it
+ */
+record Sample(int stack, int locals, byte[] code, List<Constant> pool, String kinds, List<Long> arguments, char result, List<String> forms) {
+
+  /** A constant: its pool index, its kind, its bits. */
+  record Constant(int index, char kind, long bits) {
+    int tag() {
+      return "IFJD".indexOf(kind) + 3;
+    }
+
+    int next() {
+      return index + Frame.size(kind);
+    }
+  }
+
+  int nextIndex() {
+    return pool.isEmpty() ? 1 : pool.get(pool.size() - 1).next();
+  }
+
+  /** The sheet, as document 01 lays it out. */
+  byte[] sheet() throws IOException {
+    ByteArrayOutputStream bytes = new ByteArrayOutputStream();
+    DataOutputStream out = new DataOutputStream(bytes);
+    record(out, "LM", 4);
+    out.writeShort(stack);
+    out.writeShort(locals);
+    record(out, "CD", code.length);
+    out.write(code);
+    for (Constant c : pool) {
+      record(out, "KI", Frame.wide(c.kind) ? 11 : 7);
+      out.writeShort(c.index);
+      out.writeByte(c.tag());
+      if (Frame.wide(c.kind)) out.writeLong(c.bits);
+      else out.writeInt((int) c.bits);
+    }
+    record(out, "AR", 4 * Frame.size(kinds));
+    for (int i = 0; i < kinds.length(); i++) {
+      out.writeInt((int) (long) arguments.get(i)); // the low word of a long lies first
+      if (Frame.wide(kinds.charAt(i))) out.writeInt((int) (arguments.get(i) >>> 32));
+    }
+    return bytes.toByteArray();
+  }
+
+  private static void record(DataOutputStream out, String mark, int length) throws IOException {
+    out.writeBytes(mark);
+    out.writeShort(length);
+  }
+}
