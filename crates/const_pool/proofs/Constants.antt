@@ -20,10 +20,6 @@ nothing-fits true false = refl
 nothing-fits false true = refl
 nothing-fits false false = refl
 
-any-other : (s t : Bool) → (s && true || t) ≡ (s || t)
-any-other true t = refl
-any-other false t = refl
-
 module _ (kinds words : List ℕ) (x : ℕ) (j k : Kind) (same : places k ≡ places j) where
   pub no-entry : length kinds < x + places j → Missing ≡ constantOf kinds words x j k
   unfolding constantOf

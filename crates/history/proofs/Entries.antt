@@ -7,7 +7,7 @@ use native.Mathlib.Omega.{arith}
 use lib.Dec.{leb}
 use lib.ListN.{length, getD, take, drop, length-take, length-drop, List·getD-append}
 use lib.Seq.{paste, paste-zero, length-paste, take-all, getD-append-add, getD-take, getD-drop}
-use borrow.Author.Tests.{lt-ltb, le-ltb, le-leb, lt-leb, eq-eqb, ne-eqb}
+use borrow.Author.Tests.{lt-ltb, le-ltb, le-leb, lt-leb, ne-eqb}
 use Rattle.rules.specs.declared.State.{State}
 use Rattle.rules.specs.Asked.{_else_, _>>_, isPassed}
 use Rattle.rules.specs.Step.{moved}

@@ -1,4 +1,4 @@
--- Decoding in the stages of the code, on an entry of the table: for the contracts of private functions, tied to questions 4 and 5 by proofs/Decoding.
+-- Decoding in the stages of the code, on an entry of the table: for the contracts of private functions, tied to questions 4 and 5 by proofs/Fetching.
 -- Assumes nothing.
 use Prim.Native.Nat.{ℕ, _+_, _-_}
 use mathlib.Core.Bool.{cond}

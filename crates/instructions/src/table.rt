@@ -1,4 +1,4 @@
-// The table of the instructions: one number an opcode, which the step reads once.
+// The table of the instructions: one number an opcode, which a step reads once, and twice for WIDE.
 // Its hexadecimal digits are, from the right, the length in bytes (two digits: 00 a switch, FE WIDE, FF an opcode outside the core), the places
 // popped, the places pushed, the places of the local, the format, and the opcode that instructions of the same effect share (two digits).
 ghost use mathlib.Core.Path.{_≡_};

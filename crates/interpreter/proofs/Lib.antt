@@ -1,3 +1,5 @@
+-- Laws that other crates cite
+pub mod Steps
 -- Laws for this crate's functions
 mod Results
 mod FewWords
@@ -5,5 +7,4 @@ mod Constants
 mod Decision
 mod Sources
 mod Answers
-pub mod Steps
 mod Taken

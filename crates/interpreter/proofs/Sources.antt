@@ -9,7 +9,6 @@ use lib.ListN.{length, take, drop, getD, length-drop}
 use lib.Seq.{length-take-le}
 use Rattle.values.specs.Kinds.{Kind, int, long, float, double, places, placesOf}
 use Rattle.rules.specs.declared.State.{State}
-use Rattle.rules.specs.declared.Decision.the-variants as Decision
 use Rattle.rules.specs.Asked.{passed, _else_}
 use Rattle.rules.specs.Forms.{Rule, Source, stack, local, pool}
 use Rattle.rules.specs.Instructions.{rowOf}

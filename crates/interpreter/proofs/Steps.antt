@@ -2,7 +2,7 @@
 use Prim.Native.Nat.{ℕ, zero, suc, _+_, _-_, _≤_, _<_}
 use mathlib.Core.Path.{_≡_, refl, sym, ap, _∙_}
 use mathlib.Core.List.{List, [], _∷_}
-use mathlib.Core.Logic.{⊎-elim, inl, inr}
+use mathlib.Core.Logic.{⊎-elim}
 use native.Mathlib.Omega.{arith}
 use native.Mathlib.Numerals.{add-one}
 use types.Run.{OneOf}
@@ -24,6 +24,9 @@ use Rattle.interpreter.specs.Advance.{Reached, stands, advanceFrom}
 abbrev pub Other : Decision → Type 0
 Other d = OneOf (1 ∷ 2 ∷ 3 ∷ []) (tagOf the-type d)
 
+pub not-other : (u : Update) → Other (Ordinary u) → ⊥
+not-other u h = ⊎-elim (λ z. omega arith) (⊎-elim (λ z. omega arith) (λ z. omega arith)) h
+
 -- ---- steps, by the first decision
 
 module _ (l : Lent) (n : ℕ) (s : State) (slots : List ℕ) where
@@ -35,7 +38,7 @@ module _ (l : Lent) (n : ℕ) (s : State) (slots : List ℕ) where
   pub advance-other : (most : ℕ) (d : Decision) → decideOf l s slots ≡ d → Other d → advanceFrom l most n s slots ≡ stands s n slots d
   unfolding advanceFrom
   advance-other zero d e h = ap (stands s n slots) e
-  advance-other (suc most) (Ordinary u) e h = absurd (⊎-elim (λ z. omega arith) (⊎-elim (λ z. omega arith) (λ z. omega arith)) h)
+  advance-other (suc most) (Ordinary u) e h = absurd (not-other u h)
   advance-other (suc most) (Return v) e h = rw (e, advanceFrom)
   advance-other (suc most) Throw e h = rw (e, advanceFrom)
   advance-other (suc most) (Refused k) e h = rw (e, advanceFrom)
@@ -68,7 +71,7 @@ module _ (l : Lent) (slots₀ : List ℕ) (most : ℕ) (s₀ : State) (slots : L
   pub turn : (n ≡ most → ⊥) → (u : Update) → decideOf l s slots ≡ Ordinary u → Going l slots₀ most s₀ (written u slots) (moved s (u .pc) (u .depth) 0) (n + 1)
   turn h u e =
       let legal = ordinary-legal l s slots u e in
-      let below : n < most = less in
+      let below : n < most = omega (arith, g .upto, h) in
       let left : suc (most - (n + 1)) ≡ most - n = omega arith in
       record {
         upto = omega arith;
@@ -78,9 +81,6 @@ module _ (l : Lent) (slots₀ : List ℕ) (most : ℕ) (s₀ : State) (slots : L
             ap (λ (k : ℕ). advanceFrom l (most - (n + 1)) k (moved s (u .pc) (u .depth) 0) (written u slots)) (add-one n)
             ∙ sym (advance-ordinary l n s slots (most - (n + 1)) u e) ∙ ap (λ (b : ℕ). advanceFrom l b n s slots) left ∙ g .rest;
       }
-    where
-      less : n < most
-      less = omega (arith, g .upto, h)
 
   pub ends-there : (d : Decision) → decideOf l s slots ≡ d → Other d → stands s n slots d ≡ advanceFrom l most 0 s₀ slots₀
   ends-there d e o = sym (advance-other l n s slots (most - n) d e o) ∙ g .rest

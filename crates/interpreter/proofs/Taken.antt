@@ -2,7 +2,7 @@
 use Prim.Native.Nat.{ℕ, zero, suc, _+_, _-_}
 use mathlib.Core.Path.{_≡_, refl, sym, ap, subst, _∙_}
 use mathlib.Core.List.{List}
-use mathlib.Core.Logic.{⊎-elim, inl, inr}
+use mathlib.Core.Logic.{inl, inr}
 use native.Mathlib.Omega.{arith}
 use native.Mathlib.Numerals.{add-one}
 use Rattle.rules.specs.declared.State.{State}
@@ -18,7 +18,7 @@ use Rattle.rules.proofs.Step.{run-ordinary, run-return, run-throw, run-refused,
 use Rattle.rules.proofs.Run.{run-told}
 use Rattle.interpreter.specs.Advance.{Reached, advanceFrom}
 use Rattle.interpreter.specs.Taken.{endOf}
-use Rattle.interpreter.proofs.Steps.{Other, advance-ordinary, advance-other, advance-none, decided-there, slots-there}
+use Rattle.interpreter.proofs.Steps.{Other, not-other, advance-ordinary, advance-other, advance-none, decided-there, slots-there}
 
 -- ---- a step: no step before it
 
@@ -34,7 +34,7 @@ module _ (l : Lent) (s : State) (slots : List ℕ) (r : Reached) (e : r ≡ adva
   step-other h = go (r .decision) h ∙ step-by
     where
       go : (d : Decision) → Other d → record { state = s; decision = d; slots = r .slots } ≡ stepBy s (r .slots) d
-      go (Ordinary u) o = absurd (⊎-elim (λ z. omega arith) (⊎-elim (λ z. omega arith) (λ z. omega arith)) o)
+      go (Ordinary u) o = absurd (not-other u o)
       go (Return v) o = refl
       go Throw o = refl
       go (Refused n) o = refl
@@ -51,7 +51,7 @@ abbrev lastOf : Reached → Ran
 lastOf r = lastStep (r .state) (r .steps) (r .slots) (r .decision)
 
 last-other : (s : State) (n : ℕ) (slots : List ℕ) (d : Decision) → Other d → lastStep s n slots d ≡ ends s slots n (endOf d)
-last-other s n slots (Ordinary u) h = absurd (⊎-elim (λ z. omega arith) (⊎-elim (λ z. omega arith) (λ z. omega arith)) h)
+last-other s n slots (Ordinary u) h = absurd (not-other u h)
 last-other s n slots (Return v) h = refl
 last-other s n slots Throw h = refl
 last-other s n slots (Refused k) h = refl

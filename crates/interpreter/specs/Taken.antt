@@ -22,7 +22,7 @@ stepped r slots = record { state = r .state; decision = r .decision; slots = slo
 abbrev pub ran : Ran → List ℕ → run.Ran
 ran r slots = record { state = r .state; steps = r .steps; end = r .end; slots = slots }
 
--- for the private functions of the run: what a decision ends it with (an ordinary one, nothing), and where it stands then
+-- for the private functions of the run: what a decision that is not ordinary ends it with, and where it stands then
 abbrev pub endOf : Decision → End
 endOf (Decision.Ordinary u) = End.Stopped
 endOf (Decision.Return v) = End.Return v

@@ -18,13 +18,6 @@ module _ (code : List ℕ) where
   pub u32-past : (at : ℕ) → length code ≤ at → u32 code at ≡ 0
   u32-past at h = rw (u16-past at h, u16-past (at + 2) (omega arith))
 
-  -- a code of bytes
-  pub u32-below : (at : ℕ) → ((i : ℕ) → u8 code i < 256) → u32 code at < 2 ^ 32
-  u32-below at bytes = omega (arith, bytes at, bytes (at + 1), bytes (at + 2), bytes (at + 2 + 1))
-
-  pub low-s32 : (at : ℕ) → ((i : ℕ) → u8 code i < 256) → low 32 (s32 code at) ≡ u32 code at
-  low-s32 at bytes = low-word 31 (u32 code at) (u32-below at bytes)
-
   -- a word r that was read
   module _ (at r : ℕ) (reads : r ≡ u32 code at) where
     pub word-means : signed 31 r ≡ s32 code at

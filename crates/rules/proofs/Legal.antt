@@ -1,4 +1,4 @@
--- What every ordinary step keeps: all that the theorem on the list of presses asks of the 164 instructions. Assumes nothing.
+-- What every ordinary step keeps: most of what the theorem on the list of presses asks of the 164 instructions (the rest is in Numbers). Assumes nothing.
 use Prim.Native.Nat.{ℕ, zero, suc, _+_, _≤_, _<_}
 use mathlib.Core.Path.{_≡_, subst}
 use mathlib.Core.Bool.{true, cond}

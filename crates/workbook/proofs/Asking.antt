@@ -11,7 +11,7 @@ use Rattle.rules.specs.Asked.{Asked, passed, refused, _else_, _>>_, isPassed}
 use Rattle.rules.specs.History.{Out}
 use Rattle.rules.proofs.Asked.{first-passed, last-passed, last-asked, is-passed}
 use Rattle.workbook.specs.StateWords.{lengthsAsked, sizesAsked}
-use Rattle.workbook.specs.Calls.{called, unchanged, callBy}
+use Rattle.workbook.specs.Calls.{unchanged, callBy}
 
 -- two questions whose no is 1
 two-no : (a b : Bool) → isPassed ((a else 1) >> (b else 1)) ≡ false → ((a else 1) >> (b else 1)) ≡ refused 1
@@ -72,7 +72,3 @@ module _ (slots log state answer : List ℕ) (o : Out) (x y : Asked (Unit {0})) 
   pub second-no : x ≡ passed tt → y ≡ refused 1 → unchanged slots log state answer 1 ≡ callBy slots log state answer o (x >> y)
   unfolding _>>_
   second-no e f = rw (e, f)
-
-  pub both-yes : x ≡ passed tt → y ≡ passed tt → called state answer o ≡ callBy slots log state answer o (x >> y)
-  unfolding _>>_
-  both-yes e f = rw (e, f)

@@ -1,16 +1,15 @@
 -- A list of presses of which each is refused by question 1, and the call by the answers to its questions. Assumes nothing.
 use Prim.Native.Nat.{ℕ, _+_, _*_, _≤_, _<_}
-use mathlib.Core.Path.{_≡_, refl, sym, ap, _∙_}
+use mathlib.Core.Path.{_≡_, refl, ap, _∙_}
 use mathlib.Core.Bool.{Bool, true, false}
 use mathlib.Core.List.{List, [], _∷_}
-use native.Mathlib.Omega.{arith}
 use lib.Dec.{leb, eqb}
 use lib.ListN.{length}
 use lib.Seq.{paste}
 use borrow.Author.Tests.{le-leb, lt-leb}
 use Rattle.rules.specs.declared.State.{State}
 use Rattle.rules.specs.declared.Pressed.the-variants.{Refused}
-use Rattle.rules.specs.Asked.{Asked, passed, refused, _else_, _>>_}
+use Rattle.rules.specs.Asked.{passed, refused, _else_, _>>_}
 use Rattle.rules.specs.Questions.{Lent, frameAsked}
 use Rattle.rules.specs.History.{kept}
 use Rattle.rules.specs.Walk.{Press, forward, back, pressOf, walkOf}

@@ -5,7 +5,7 @@
 //! After every call:
 //!
 //! - fuzz/promise.rs: guards around each part, parts that are only read, the numbers of a function,
-//!   and what ABI.md lets a call write, without a look at any instruction;
+//!   and what the boundary (include/workbook.h) lets a call write, without a look at any instruction;
 //! - fuzz/model.rs and rules.rs: the number and every word, by another loader and another
 //!   interpreter, written from document 01 and JVMS.
 //!

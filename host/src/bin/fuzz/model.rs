@@ -1,4 +1,4 @@
-//! What each call has to leave, written from ABI.md and document 01: the calls of the library, made
+//! What each call has to leave, written from include/workbook.h and document 01: the calls of the library, made
 //! by other means on a copy of the memory.
 
 use super::memory::{Function, Memory};

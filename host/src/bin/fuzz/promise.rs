@@ -1,4 +1,4 @@
-//! What ABI.md lets a call write, and what it says of every granted call, without a look at any
+//! What the boundary (include/workbook.h) lets a call write, and what it says of every granted call, without a look at any
 //! instruction: this holds whatever the rules of the instructions are.
 
 use super::memory::{Element, Function, Lent, Memory};
