@@ -63,8 +63,13 @@ fn run_framed(
         return ended(t, reached.steps, end);
     };
     commit(slots, t, u);
-    let last = moved(t, u.pc, u.depth, 0);
-    ended(last, reached.steps + 1, End::Stopped)
+    let state = moved(t, u.pc, u.depth, 0);
+    let steps = reached.steps + 1;
+    Ran {
+        state,
+        steps,
+        end: End::Stopped,
+    }
 }
 
 // A run on any code, pool, slots and state: questions 1 to 3 come first, also with budget 0.

@@ -51,20 +51,17 @@ commit-requires c κs =
 moved-requires : tie.Need-moved-requires
 moved-requires c κs = search needs
 
-add-ended : tie.Need-add-ended
-add-ended c = omega (arith, c .before .before .before .before .before .before .before .before .before .before .before .before .advance-framed .ensures .1, c .before .before .before .before .before .before .before .before .before .before .before .before .before .before .if1 .left, c .before .before .before .before .before .before .before .before .before .before .before .before .before .before .before .before .before .before .before .fits .budget)
-
-ended-requires-3 : tie.Need-ended-requires-3
-ended-requires-3 c κs = search needs
+add-steps : tie.Need-add-steps
+add-steps c = omega (arith, c .before .before .before .before .before .before .before .before .before .before .before .before .advance-framed .ensures .1, c .before .before .before .before .before .before .before .before .before .before .before .before .before .before .if1 .left, c .before .before .before .before .before .before .before .before .before .before .before .before .before .before .before .before .before .before .before .fits .budget)
 
 same-length-2 : tie.Need-same-length-2
 same-length-2 c = search needs
 
 returns-3 : tie.Need-returns-3
 returns-3 c =
-    let a = c .before .before .before .before .before .before .before .before .before .before .before .before .before .before .before .before .before .before .before .before .args in
+    let a = c .before .before .before .before .before .before .before .before .before .before .before .before .before .before .before .before .before .before .before .args in
     let l = lent (now (a .code)) (now (a .kinds)) (now (a .words)) in
-    rw (c .ended3 .ensures, c .before .before .moved .ensures, c .before .before .before .before .before .commit .ensures) (ends-stopped l (a .budget) (a .s) (now (a .slots)) (c .before .before .before .before .before .before .before .before .before .before .before .before .before .before .before .if1 .left) _ (c .before .before .before .before .before .before .before .before .before .before .before .before .before .advance-framed .ensures .0) _ (c .before .before .before .before .before .before .before .before .decision .given .1))
+    rw (c .before .moved .ensures, c .before .before .before .before .commit .ensures) (ends-stopped l (a .budget) (a .s) (now (a .slots)) (c .before .before .before .before .before .before .before .before .before .before .before .before .before .before .if1 .left) _ (c .before .before .before .before .before .before .before .before .before .before .before .before .advance-framed .ensures .0) _ (c .before .before .before .before .before .before .before .decision .given .1))
 
 pub run-framed-spec : {M : Type 1} → statement M
 run-framed-spec =
@@ -81,7 +78,6 @@ run-framed-spec =
     returns-2
     commit-requires
     moved-requires
-    add-ended
-    ended-requires-3
+    add-steps
     same-length-2
     returns-3)
