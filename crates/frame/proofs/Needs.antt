@@ -5,10 +5,10 @@ use mathlib.Core.Bool.{Bool, true, false, _&&_}
 use mathlib.Core.List.{List}
 use Rattle.values.specs.Kinds.{Kind, int, long, float, double, reference, any, placesOf}
 use Rattle.rules.specs.declared.State.{State}
-use Rattle.rules.specs.Asked.{Asked, passed, refused, _else_, _>>_}
+use Rattle.rules.specs.Check.{Check, passed, refused, _else_, _>>_}
 use Rattle.rules.specs.Instructions.{rowOf}
 use Rattle.rules.specs.Fetch.{Instruction}
-use Rattle.rules.specs.Questions.{Lent, popped, pushed, localsBelow, constantThere, needsAsked}
+use Rattle.rules.specs.Questions.{Method, popped, pushed, localsBelow, constantThere, needsCheck}
 use Rattle.rules.specs.Step.{base}
 use Rattle.rules.proofs.Fetched.{Sound}
 use Rattle.rules.proofs.Rows.{of-row, small, small-row, OneLocal, no-local, one-local, one-named}
@@ -16,7 +16,7 @@ use Rattle.instructions.specs.Table.{entryOf}
 use Rattle.instructions.proofs.Entries.{digits}
 use Rattle.frame.specs.declared.places.Placed.{Placed}
 use Rattle.frame.specs.declared.places.Placed.the-variants.{At, Refused}
-use Rattle.frame.specs.Place.{popsIn, pushesIn, localsIn, localThere, placeAsked, answer, placeOf}
+use Rattle.frame.specs.Place.{popsIn, pushesIn, localsIn, localThere, placeCheck, answer, placeOf}
 
 and-yes : (t : Bool) → (t && true) ≡ t
 and-yes true = refl
@@ -31,24 +31,24 @@ one-local-below limit x (one-local double _) = and-yes _
 one-local-below limit x (one-local reference _) = and-yes _
 one-local-below limit x (one-local any _) = and-yes _
 
-in-turn : (x y z : Asked (Unit {0})) → ((x >> y) >> z) ≡ (x >> (y >> z))
+in-turn : (x y z : Check (Unit {0})) → ((x >> y) >> z) ≡ (x >> (y >> z))
 unfolding _>>_
 in-turn (passed t) y z = refl
 in-turn (refused n) y z = refl
 
 -- question 9
-abbrev pub constantAsked : Lent → Instruction → Asked (Unit {0})
-constantAsked l i = constantThere (l .kinds) (i .operand .index) (i .rule .constants) else 10
+abbrev pub constantCheck : Method → Instruction → Check (Unit {0})
+constantCheck l i = constantThere (l .kinds) (i .operand .index) (i .rule .constants) else 10
 
 -- what an answer to questions 6 to 8 says of all needs, of the first place and of the new depth
-pub record Stands (l : Lent) (s : State) (i : Instruction) (first depth : ℕ) : Type 0 where
-  pub asked : needsAsked l s i ≡ constantAsked l i
+pub record Stands (l : Method) (s : State) (i : Instruction) (first depth : ℕ) : Type 0 where
+  pub asked : needsCheck l s i ≡ constantCheck l i
   pub based : base s i ≡ first
   pub deep : s .depth - popped i + pushed i ≡ depth
 
-abbrev pub Says : Lent → State → Instruction → Placed → Type 0
+abbrev pub Says : Method → State → Instruction → Placed → Type 0
 Says l s i (At first depth) = Stands l s i first depth
-Says l s i (Refused n) = needsAsked l s i ≡ refused n
+Says l s i (Refused n) = needsCheck l s i ≡ refused n
 
 module _ (code : List ℕ) (pc : ℕ) (i : Instruction) (t : Sound code pc i) where
   pub popped-in : popsIn (entryOf (rowOf (i .opcode))) ≡ popped i
@@ -66,12 +66,12 @@ module _ (code : List ℕ) (pc : ℕ) (i : Instruction) (t : Sound code pc i) wh
         let few = of-row (λ r. small (r .rule)) (λ r. true) (rowOf (i .opcode)) (t .row) (small-row (i .opcode)) (t .found) in
         rw locals-in (one-local-below (s .«max_locals») (i .operand .index) {ks = i .rule .locals} (rw (t .ruled) (one-named (t .row .rule) few)))
 
-    module _ (l : Lent) where
-      pub needs-by-entry : needsAsked l s i ≡ (placeAsked (entryOf (rowOf (i .opcode))) (i .operand .index) s >> constantAsked l i)
-      unfolding needsAsked placeAsked
+    module _ (l : Method) where
+      pub needs-by-entry : needsCheck l s i ≡ (placeCheck (entryOf (rowOf (i .opcode))) (i .operand .index) s >> constantCheck l i)
+      unfolding needsCheck placeCheck
       needs-by-entry = rw (popped-in, pushed-in, local-below) (simp in-turn)
 
-      answer-says : (x : Asked (Unit {0})) → needsAsked l s i ≡ (x >> constantAsked l i) → Says l s i (answer (entryOf (rowOf (i .opcode))) s x)
+      answer-says : (x : Check (Unit {0})) → needsCheck l s i ≡ (x >> constantCheck l i) → Says l s i (answer (entryOf (rowOf (i .opcode))) s x)
       unfolding _>>_
       answer-says (passed u) e = record {
         asked = e;

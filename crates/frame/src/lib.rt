@@ -7,8 +7,8 @@ mod words;
 
 pub use places::Placed;
 pub use places::place;
-pub use questions::FrameAsked;
-pub use questions::ask_frame;
+pub use questions::FrameCheck;
+pub use questions::check_frame;
 pub use slots::commit;
 pub use slots::load_local;
 pub use slots::load_local_2;

@@ -9,10 +9,10 @@ use lib.ListN.{length, getD, take, drop, length-take, length-drop, List·getD-ap
 use lib.Seq.{paste, paste-zero, length-paste, take-all, getD-append-add, getD-take, getD-drop}
 use borrow.Author.Tests.{lt-ltb, le-ltb, le-leb, lt-leb, ne-eqb}
 use Rattle.rules.specs.declared.State.{State}
-use Rattle.rules.specs.Asked.{_else_, _>>_, isPassed}
+use Rattle.rules.specs.Check.{_else_, _>>_, isPassed}
 use Rattle.rules.specs.Step.{moved}
-use Rattle.rules.specs.History.{zeros6, oldWords, entryAsked, restored}
-use Rattle.rules.proofs.Asked.{last-asked}
+use Rattle.rules.specs.History.{zeros6, oldWords, entryCheck, restored}
+use Rattle.rules.proofs.Check.{last-asked}
 use Rattle.history.specs.declared.undo_log.Entry.{Entry}
 use Rattle.history.specs.Left.{entryOf, takenBack}
 
@@ -83,26 +83,26 @@ module _ (log : List ℕ) (k : ℕ) (e : Entry) (is : e ≡ entryOf log k) where
   -- ---- whether it is sound
 
   module _ (code : List ℕ) (s : State) where
-    pub outside : length code ≤ e .pc → false ≡ isPassed (entryAsked code s log k)
-    unfolding entryAsked _else_ _>>_
+    pub outside : length code ≤ e .pc → false ≡ isPassed (entryCheck code s log k)
+    unfolding entryCheck _else_ _>>_
     outside h = simp (← pc-read, le-ltb _ _ h)
 
     module _ (offset : e .pc < length code) where
-      pub too-deep : s .«max_stack» < e .depth → false ≡ isPassed (entryAsked code s log k)
-      unfolding entryAsked _else_ _>>_
+      pub too-deep : s .«max_stack» < e .depth → false ≡ isPassed (entryCheck code s log k)
+      unfolding entryCheck _else_ _>>_
       too-deep h = simp (← pc-read, ← depth-read, lt-ltb _ _ offset, lt-leb _ _ h)
 
       module _ (depth : e .depth ≤ s .«max_stack») where
-        pub too-many : 6 < e .many → false ≡ isPassed (entryAsked code s log k)
-        unfolding entryAsked _else_ _>>_
+        pub too-many : 6 < e .many → false ≡ isPassed (entryCheck code s log k)
+        unfolding entryCheck _else_ _>>_
         too-many h = simp (← pc-read, ← depth-read, ← many-read, lt-ltb _ _ offset, le-leb _ _ depth, lt-leb _ _ h)
 
-        pub no-places : e .many ≡ 0 → true ≡ isPassed (entryAsked code s log k)
-        unfolding entryAsked _else_ _>>_
+        pub no-places : e .many ≡ 0 → true ≡ isPassed (entryCheck code s log k)
+        unfolding entryCheck _else_ _>>_
         no-places h = simp (← pc-read, ← depth-read, ← many-read, lt-ltb _ _ offset, le-leb _ _ depth, h)
 
-        pub some-places : e .many ≤ 6 → (e .many ≡ 0 → ⊥) → leb (e .first + e .many) (s .«max_locals» + s .«max_stack») ≡ isPassed (entryAsked code s log k)
-        unfolding entryAsked _else_ _>>_
+        pub some-places : e .many ≤ 6 → (e .many ≡ 0 → ⊥) → leb (e .first + e .many) (s .«max_locals» + s .«max_stack») ≡ isPassed (entryCheck code s log k)
+        unfolding entryCheck _else_ _>>_
         some-places few h = simp (← pc-read, ← depth-read, ← first-read, ← many-read, lt-ltb _ _ offset, le-leb _ _ depth, le-leb _ _ few, ne-eqb _ _ h) (last-asked _ 14)
 
   -- ---- what it gives back

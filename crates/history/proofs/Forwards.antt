@@ -4,13 +4,13 @@ use mathlib.Core.Path.{_≡_, sym, ap, _∙_}
 use mathlib.Core.List.{List}
 use Rattle.rules.specs.declared.State.{State}
 use Rattle.rules.specs.declared.Decision.{Decision}
-use Rattle.rules.specs.Questions.{Lent}
+use Rattle.rules.specs.Questions.{Method}
 use Rattle.rules.specs.History.{forwardBy, forwardOf}
 use Rattle.rules.proofs.History.{forward-by}
 use Rattle.interpreter.specs.Advance.{Reached, advanceFrom}
 use Rattle.interpreter.proofs.Steps.{decided-there, slots-there}
 
-pub forward-there : (l : Lent) (s : State) (slots log : List ℕ) (r : Reached) → r ≡ advanceFrom l 0 0 s slots
+pub forward-there : (l : Method) (s : State) (slots log : List ℕ) (r : Reached) → r ≡ advanceFrom l 0 0 s slots
     → (d : Decision) → r .decision ≡ d → forwardBy s (r .slots) log d ≡ forwardOf l s slots log
 forward-there l s slots log r e d h =
     ap (λ (x : List ℕ). forwardBy s x log d) (slots-there l s slots r e)

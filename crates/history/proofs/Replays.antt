@@ -4,12 +4,12 @@ use mathlib.Core.Path.{_≡_, sym, subst, _∙_}
 use mathlib.Core.List.{List}
 use lib.ListN.{length}
 use Rattle.rules.specs.declared.State.{State}
-use Rattle.rules.specs.Questions.{Lent}
+use Rattle.rules.specs.Questions.{Method}
 use Rattle.rules.specs.Walk.{walkOf}
 use Rattle.rules.specs.Presses.{pressesOfBytes, Replayed, replayed, replayOf, FromAnyLoad}
 use Rattle.rules.proofs.Replay.{replay-made, replay-short, from-any-load}
 
-module _ (l : Lent) (bytes : List ℕ) (s : State) (slots log answers : List ℕ) (r : Replayed) where
+module _ (l : Method) (bytes : List ℕ) (s : State) (slots log answers : List ℕ) (r : Replayed) where
   promised : r ≡ replayOf l bytes s slots log answers → (r ≡ replayOf l bytes s slots log answers) × FromAnyLoad l s slots log answers bytes r
   promised e = (e, subst (FromAnyLoad l s slots log answers bytes) (sym e) (from-any-load l bytes s slots log answers))
 

@@ -11,8 +11,8 @@ use rules::Update;
 ghost use mathlib.Core.Path.{_≡_};
 ghost use Prim.Native.Nat.{_+_, _≤_};
 ghost use lib.ListN.{length};
-ghost use Rattle.rules.specs.Questions.{lent};
-ghost use Rattle.rules.specs.History.{logAsked, grantedBy, forwardOf};
+ghost use Rattle.rules.specs.Questions.{method};
+ghost use Rattle.rules.specs.History.{logCheck, grantedBy, forwardOf};
 ghost use Rattle.history.specs.Left.{pressed};
 
 // The state after a press, and its answer.
@@ -24,7 +24,7 @@ pub struct Press {
 // Question 11; then the undo record is written, and the step committed.
 fn grant(slots: &mut [u32], log: &mut [u32], s: State, u: Update) -> Press
     requires { ⌜ (u .many ≤ 6) × (u .first + u .many ≤ s .«max_locals» + s .«max_stack») × (s .«max_locals» + s .«max_stack» ≤ length (now slots)) ⌝ }
-    ensures { λ r. ⌜ pressed r (now (slots .exit)) (now (log .exit)) ≡ grantedBy s (now (slots .entry)) (now (log .entry)) u (logAsked (s .count) (length (now (log .entry)))) ⌝ }
+    ensures { λ r. ⌜ pressed r (now (slots .exit)) (now (log .exit)) ≡ grantedBy s (now (slots .entry)) (now (log .entry)) u (logCheck (s .count) (length (now (log .entry)))) ⌝ }
 {
     if entries(log) <= s.count {
         return Press {
@@ -50,7 +50,7 @@ pub fn forward(
     log: &mut [u32],
     s: State,
 ) -> Press
-    ensures { λ r. ⌜ pressed r (now (slots .exit)) (now (log .exit)) ≡ forwardOf (lent (now (code .entry)) (now (kinds .entry)) (now (words .entry))) s (now (slots .entry)) (now (log .entry)) ⌝ }
+    ensures { λ r. ⌜ pressed r (now (slots .exit)) (now (log .exit)) ≡ forwardOf (method (now (code .entry)) (now (kinds .entry)) (now (words .entry))) s (now (slots .entry)) (now (log .entry)) ⌝ }
 {
     let reached = advance(code, kinds, words, slots, s, 0);
     let decision = reached.decision;

@@ -7,8 +7,8 @@ ghost use mathlib.Core.Path.{_≡_};
 ghost use Prim.Native.Nat.{_+_, _-_, _/_, _^_, _≤_, _<_};
 ghost use lib.ListN.{length, getD};
 ghost use lib.Seq.{paste};
-ghost use Rattle.rules.specs.Asked.{isPassed};
-ghost use Rattle.rules.specs.History.{entryAt, oldWords, undoRecord, entryAsked, restored};
+ghost use Rattle.rules.specs.Check.{isPassed};
+ghost use Rattle.rules.specs.History.{entryAt, oldWords, undoRecord, entryCheck, restored};
 ghost use Rattle.history.specs.Left.{entryOf, takenBack};
 
 // How many whole entries the log has.
@@ -85,7 +85,7 @@ fn read_entry(log: &[u32], n: u64) -> Entry
 // Whether an entry has its offset in the code, its depth at most max_stack, and at most six places, all in the frame.
 pub(crate) fn is_sound(code: &[u8], log: &[u32], s: State, n: u64) -> bool
     requires { ⌜ entryAt n + 10 ≤ length (now log) ⌝ }
-    ensures { λ r. ⌜ r ≡ isPassed (entryAsked (now (code .entry)) s (now (log .entry)) (entryAt n)) ⌝ }
+    ensures { λ r. ⌜ r ≡ isPassed (entryCheck (now (code .entry)) s (now (log .entry)) (entryAt n)) ⌝ }
 {
     let entry = read_entry(log, n);
     if code.len() <= entry.pc as usize {

@@ -9,7 +9,7 @@ use borrow.Author.Tests.{ltb-true}
 use Rattle.values.specs.Kinds.{placesOf}
 use Rattle.rules.specs.Forms.{Row, Format, alone, implied, byte, short, index, index2, index-const, branch, branch4, table, pairs, widened}
 use Rattle.rules.specs.Instructions.{instructions, rowOf}
-use Rattle.rules.proofs.Asked.{and-true}
+use Rattle.rules.proofs.Check.{and-true}
 use Rattle.rules.proofs.Rows.{OfRow, every-row, of-row}
 use Rattle.instructions.specs.Table.{lengthOf, formatOf, sharedOf, entryOf}
 

@@ -10,10 +10,10 @@ use lib.Dec.{leb, lit≤}
 use lib.ListN.{length}
 use borrow.Author.Tests.{ltb-true}
 use Rattle.values.specs.Integers.{low}
-use Rattle.rules.specs.Asked.{Asked, passed, _else_, _>>_}
+use Rattle.rules.specs.Check.{Check, passed, _else_, _>>_}
 use Rattle.rules.specs.Forms.{Row, Operand, Format, alone, implied, byte, short, index, index2, index-const, branch, branch4, table, pairs, widened}
 use Rattle.rules.specs.Instructions.{rowOf}
-use Rattle.rules.specs.Fetch.{Instruction, instruction, operands, u8, u16, s16, widens, wideOpcode, sized, tableAsked, lookupAsked, wideAsked, byFormat, fetched}
+use Rattle.rules.specs.Fetch.{Instruction, instruction, operands, u8, u16, s16, widens, wideOpcode, sized, tableCheck, lookupCheck, wideCheck, byFormat, fetched}
 use Rattle.rules.proofs.Rows.{own-opcode, upTo, agree, isSome}
 use Rattle.rules.proofs.Questions.{of-core, not-core, wide-iinc, wide-local}
 use Rattle.operands.specs.declared.switches.Switch.{Switch}
@@ -28,9 +28,9 @@ use Rattle.instructions.proofs.Entries.{digits, impliedFew}
 -- what an instruction's format makes of its entry e: a length and operands, a table, pairs, or what follows WIDE
 data Class (code : List ℕ) (pc e : ℕ) (r : Row) (f : Format) : Type 0 where
   of-fixed-length : 0 < lengthOf f → lengthOf f < 254 → sizedOf code pc e (lengthOf f) (fieldsOf code pc (formatOf f)) ≡ decoded (byFormat code pc r f) → Class code pc e r f
-  of-table : lengthOf f ≡ 0 → formatOf f ≡ 11 → switchDecoded e (switchOf (tableAsked code pc r)) ≡ decoded (byFormat code pc r f) → Class code pc e r f
-  of-pairs : lengthOf f ≡ 0 → formatOf f ≡ 12 → switchDecoded e (switchOf (lookupAsked code pc r)) ≡ decoded (byFormat code pc r f) → Class code pc e r f
-  of-wide : lengthOf f ≡ 254 → decoded (wideAsked code pc) ≡ decoded (byFormat code pc r f) → Class code pc e r f
+  of-table : lengthOf f ≡ 0 → formatOf f ≡ 11 → switchDecoded e (switchOf (tableCheck code pc r)) ≡ decoded (byFormat code pc r f) → Class code pc e r f
+  of-pairs : lengthOf f ≡ 0 → formatOf f ≡ 12 → switchDecoded e (switchOf (lookupCheck code pc r)) ≡ decoded (byFormat code pc r f) → Class code pc e r f
+  of-wide : lengthOf f ≡ 254 → decoded (wideCheck code pc) ≡ decoded (byFormat code pc r f) → Class code pc e r f
 
 -- e is the entry of the row r
 module _ (code : List ℕ) (pc e : ℕ) (r : Row) (E : entryOf (rowOf (r .opcode)) ≡ e) where
@@ -44,10 +44,10 @@ module _ (code : List ℕ) (pc e : ℕ) (r : Row) (E : entryOf (rowOf (r .opcode
       go false = refl
 
   -- a switch
-  Alike : Asked Instruction → Type 0
+  Alike : Check Instruction → Type 0
   Alike x = switchDecoded e (switchOf x) ≡ decoded x
 
-  asked : (t : Bool) (n : ℕ) (x : Asked Instruction) → Alike x → Alike ((t else n) >> x)
+  asked : (t : Bool) (n : ℕ) (x : Check Instruction) → Alike x → Alike ((t else n) >> x)
   unfolding Alike decoded switchOf _else_ _>>_
   asked true n x h = h
   asked false n x h = refl
@@ -56,12 +56,12 @@ module _ (code : List ℕ) (pc e : ℕ) (r : Row) (E : entryOf (rowOf (r .opcode
   unfolding Alike decoded switchOf
   accepted n c ps = rw E
 
-  pub table-is : switchDecoded e (switchOf (tableAsked code pc r)) ≡ decoded (tableAsked code pc r)
-  unfolding Alike tableAsked
+  pub table-is : switchDecoded e (switchOf (tableCheck code pc r)) ≡ decoded (tableCheck code pc r)
+  unfolding Alike tableCheck
   table-is = asked _ 5 _ (asked _ 6 _ (asked _ 5 _ (accepted _ _ _)))
 
-  pub lookup-is : switchDecoded e (switchOf (lookupAsked code pc r)) ≡ decoded (lookupAsked code pc r)
-  unfolding Alike lookupAsked
+  pub lookup-is : switchDecoded e (switchOf (lookupCheck code pc r)) ≡ decoded (lookupCheck code pc r)
+  unfolding Alike lookupCheck
   lookup-is = asked _ 5 _ (asked _ 6 _ (asked _ 5 _ (asked _ 6 _ (accepted _ _ _))))
 
   -- ---- by the format
@@ -135,16 +135,16 @@ module _ (code : List ℕ) (pc : ℕ) where
       go r l (of-pairs a b s) = absurd (omega arith)
       go r l (of-wide a s) = absurd (omega arith)
 
-  pub wide-instruction : here % 0x100 ≡ 254 → decoded (wideAsked code pc) ≡ decoded (fetched code pc)
+  pub wide-instruction : here % 0x100 ≡ 254 → decoded (wideCheck code pc) ≡ decoded (fetched code pc)
   wide-instruction h = cases _ (λ e. let z = outside-length e in absurd (omega arith)) (λ r o. same r o (go r (o .length-is) (o .class-of)))
     where
-      go : (r : Row) → here % 0x100 ≡ lengthOf (r .format) → Class code pc here r (r .format) → decoded (wideAsked code pc) ≡ decoded (byFormat code pc r (r .format))
+      go : (r : Row) → here % 0x100 ≡ lengthOf (r .format) → Class code pc here r (r .format) → decoded (wideCheck code pc) ≡ decoded (byFormat code pc r (r .format))
       go r l (of-fixed-length a b s) = absurd (omega arith)
       go r l (of-table a b s) = absurd (omega arith)
       go r l (of-pairs a b s) = absurd (omega arith)
       go r l (of-wide a s) = s
 
-  pub table-instruction : (x : Switch) → ((row : Row) → x ≡ switchOf (tableAsked code pc row)) → here % 0x100 ≡ 0 → here / 0x100000 % 16 ≡ 11
+  pub table-instruction : (x : Switch) → ((row : Row) → x ≡ switchOf (tableCheck code pc row)) → here % 0x100 ≡ 0 → here / 0x100000 % 16 ≡ 11
       → switchDecoded here x ≡ decoded (fetched code pc)
   table-instruction x p h f = cases _ (λ e. let z = outside-length e in absurd (omega arith)) (λ r o. same r o (go r (o .length-is) (o .format-is) (o .class-of)))
     where
@@ -155,7 +155,7 @@ module _ (code : List ℕ) (pc : ℕ) where
       go r l k (of-pairs a b s) = absurd (omega arith)
       go r l k (of-wide a s) = absurd (omega arith)
 
-  pub lookup-instruction : (x : Switch) → ((row : Row) → x ≡ switchOf (lookupAsked code pc row)) → here % 0x100 ≡ 0 → (here / 0x100000 % 16 ≡ 11 → ⊥)
+  pub lookup-instruction : (x : Switch) → ((row : Row) → x ≡ switchOf (lookupCheck code pc row)) → here % 0x100 ≡ 0 → (here / 0x100000 % 16 ≡ 11 → ⊥)
       → switchDecoded here x ≡ decoded (fetched code pc)
   lookup-instruction x p h f = cases _ (λ e. let z = outside-length e in absurd (omega arith)) (λ r o. same r o (go r (o .length-is) (o .format-is) (o .class-of)))
     where
@@ -196,13 +196,13 @@ module _ (code : List ℕ) (pc : ℕ) (there : pc + 1 < length code) (allowed : 
       go (some r) e = k r e
 
   pub wide-increment : wideOpcode code pc ≡ 132
-      → sizedOf code pc (entryOf (rowOf (wideOpcode code pc))) 6 (fields (u16 code (pc + 2)) (low 32 (s16 code (pc + 4)))) ≡ decoded (wideAsked code pc)
+      → sizedOf code pc (entryOf (rowOf (wideOpcode code pc))) 6 (fields (u16 code (pc + 2)) (low 32 (s16 code (pc + 4)))) ≡ decoded (wideCheck code pc)
   wide-increment h = wide-row _ (λ r e.
       sized-is code pc (entryOf (rowOf (wideOpcode code pc))) r (ap (λ (n : ℕ). entryOf (rowOf n)) (own-opcode (wideOpcode code pc) r e)) 6 (operands (u16 code (pc + 2)) (s16 code (pc + 4)) [])
       ∙ ap decoded (sym (wide-iinc code pc there allowed r e h)))
 
   pub wide-other : (wideOpcode code pc ≡ 132 → ⊥)
-      → sizedOf code pc (entryOf (rowOf (wideOpcode code pc))) 4 (fields (u16 code (pc + 2)) 0) ≡ decoded (wideAsked code pc)
+      → sizedOf code pc (entryOf (rowOf (wideOpcode code pc))) 4 (fields (u16 code (pc + 2)) 0) ≡ decoded (wideCheck code pc)
   unfolding low
   wide-other h = wide-row _ (λ r e.
       sized-is code pc (entryOf (rowOf (wideOpcode code pc))) r (ap (λ (n : ℕ). entryOf (rowOf n)) (own-opcode (wideOpcode code pc) r e)) 4 (operands (u16 code (pc + 2)) (pos 0) [])

@@ -10,7 +10,7 @@ use operands::read_code_u32;
 use operands::table_switch;
 ghost use mathlib.Core.Path.{_≡_};
 ghost use Prim.Native.Nat.{_+_, _<_};
-ghost use Rattle.rules.specs.Fetch.{fetched, widens, wideAsked};
+ghost use Rattle.rules.specs.Fetch.{fetched, widens, wideCheck};
 ghost use Rattle.instructions.specs.Decode.{decoded};
 ghost use Rattle.instructions.specs.Stages.{fieldsOf, sizedOf, switchDecoded};
 
@@ -110,7 +110,7 @@ fn is_widened(opcode: u8) -> bool
 
 // WIDE: an instruction with its operands at twice the size.
 fn wide(code: &[u8], pc: u32) -> Decoded
-    ensures { λ r. ⌜ r ≡ decoded (wideAsked (now (code .entry)) pc) ⌝ }
+    ensures { λ r. ⌜ r ≡ decoded (wideCheck (now (code .entry)) pc) ⌝ }
 {
     let at = pc as usize;
     if code.len() <= at + 1 {

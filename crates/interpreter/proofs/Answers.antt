@@ -10,9 +10,9 @@ use lib.ListN.{length}
 use Rattle.values.specs.Integers.{low}
 use Rattle.rules.specs.declared.State.{State}
 use Rattle.rules.specs.declared.Decision.the-variants as Decision
-use Rattle.rules.specs.Asked.{Asked, passed, refused, _else_, _>>_}
+use Rattle.rules.specs.Check.{Check, passed, refused, _else_, _>>_}
 use Rattle.rules.specs.Fetch.{Instruction, fetched}
-use Rattle.rules.specs.Questions.{Lent, frameAsked}
+use Rattle.rules.specs.Questions.{Method, frameCheck}
 use Rattle.rules.specs.Step.{inside, decideOf}
 use Rattle.rules.proofs.Questions as rules
 use Rattle.rules.proofs.Fetched.{fetched-sound}
@@ -23,7 +23,7 @@ use Rattle.instructions.specs.declared.decoding.Decoded.the-variants as Decoded
 use Rattle.instructions.specs.Decode.{decoded}
 use Rattle.instructions.specs.Table.{isIn}
 use Rattle.effects.specs.Families.{sharedOpcodes}
-use Rattle.frame.specs.declared.questions.FrameAsked.the-variants as FrameAsked
+use Rattle.frame.specs.declared.questions.FrameCheck.the-variants as FrameCheck
 use Rattle.frame.specs.declared.places.Placed.{Placed}
 use Rattle.frame.specs.declared.places.Placed.the-variants as Placed
 use Rattle.frame.specs.FrameAnswer.{frameAnswer}
@@ -36,8 +36,8 @@ use Rattle.interpreter.proofs.Sources.{located-decides}
 
 -- ---- questions 1 to 3
 
-pub by-frame : (l : Lent) (s : State) (slots : List ℕ) (n : ℕ) → FrameAsked.Refused n ≡ frameAnswer (frameAsked l s slots) → decideOf l s slots ≡ Decision.Refused n
-by-frame l s slots n e = refused-by-frame l s slots n (frame-refused (frameAsked l s slots) n e)
+pub by-frame : (l : Method) (s : State) (slots : List ℕ) (n : ℕ) → FrameCheck.Refused n ≡ frameAnswer (frameCheck l s slots) → decideOf l s slots ≡ Decision.Refused n
+by-frame l s slots n e = refused-by-frame l s slots n (frame-refused (frameCheck l s slots) n e)
 
 -- ---- questions 4 and 5
 
@@ -54,16 +54,16 @@ pub decodes : (code : List ℕ) (pc entry size index constant : ℕ) → Decoded
 unfolding decoded
 decodes code pc entry size index constant e = go (fetched code pc) refl e
   where
-    go : (x : Asked Instruction) → fetched code pc ≡ x → Decoded.Instruction entry size index constant ≡ decoded x → Decodes code pc entry size index constant
+    go : (x : Check Instruction) → fetched code pc ≡ x → Decoded.Instruction entry size index constant ≡ decoded x → Decodes code pc entry size index constant
     go (passed i) f h = record { i = i; at = f; entered = cc; sized = cc; indexed = cc; worded = cc }
     go (refused n) f h = let z : _≡_ {A = ℕ} 0 1 = cc in absurd (omega arith)
 
-not-decoded : (x : Asked Instruction) (n : ℕ) → Decoded.Refused n ≡ decoded x → x ≡ refused n
+not-decoded : (x : Check Instruction) (n : ℕ) → Decoded.Refused n ≡ decoded x → x ≡ refused n
 unfolding decoded
 not-decoded (passed i) n e = let z : _≡_ {A = ℕ} 0 1 = cc in absurd (omega arith)
 not-decoded (refused k) n e = cc
 
-module _ (l : Lent) (s : State) (slots : List ℕ) (framed : frameAsked l s slots ≡ passed tt) where
+module _ (l : Method) (s : State) (slots : List ℕ) (framed : frameCheck l s slots ≡ passed tt) where
   pub by-fetch : (n : ℕ) → Decoded.Refused n ≡ decoded (fetched (l .code) (s .pc)) → decideOf l s slots ≡ Decision.Refused n
   by-fetch n e = refused-by-fetch l s slots framed n (not-decoded (fetched (l .code) (s .pc)) n e)
 

@@ -13,11 +13,11 @@ use Rattle.values.specs.Words.{meaning}
 use Rattle.rules.specs.declared.State.{State}
 use Rattle.rules.specs.declared.Decision.{Decision}
 use Rattle.rules.specs.declared.Decision.the-variants as Decision
-use Rattle.rules.specs.Asked.{Asked, passed, refused, _>>=_}
+use Rattle.rules.specs.Check.{Check, passed, refused, _>>=_}
 use Rattle.rules.specs.Forms.{Rule, Operand, Result, offsetFor, pushes, stores, divides, branches, returns}
 use Rattle.rules.specs.Instructions.{rowOf}
 use Rattle.rules.specs.Fetch.{Instruction, operands, lowKey, highKey, tableOperand, pairCount, pairsOperand, fetched}
-use Rattle.rules.specs.Questions.{Lent, popped, pushed, frameAsked, needsAsked}
+use Rattle.rules.specs.Questions.{Method, popped, pushed, frameCheck, needsCheck}
 use Rattle.rules.specs.Step.{frame, base, wordsAt, update, inside, ordinary, following, target, outcome, decision, decideOf}
 use Rattle.rules.proofs.Rows.{works}
 use Rattle.rules.proofs.Fetched.{Sound}
@@ -36,12 +36,12 @@ use Rattle.interpreter.proofs.Results.{doesFour, isStore, row-stores, o
 
 -- ---- what a result comes to
 
-module _ (l : Lent) (s : State) (i : Instruction) where
+module _ (l : Method) (s : State) (i : Instruction) where
   ordinary-is : (to : ℤ) (at n : ℕ) (ws : List ℕ) → decision (ordinary l s i to at n ws) ≡ ordinaryTo (inside (l .code) to) (s .depth - popped i + pushed i) at n (six ws)
   unfolding _>>=_ ordinaryTo
   ordinary-is to at n ws = go (inside (l .code) to)
     where
-      go : (x : Asked ℕ) → decision (x >>= λ pc. passed (Decision.Ordinary (update pc (s .depth - popped i + pushed i) at n ws))) ≡ ordinaryTo x (s .depth - popped i + pushed i) at n (six ws)
+      go : (x : Check ℕ) → decision (x >>= λ pc. passed (Decision.Ordinary (update pc (s .depth - popped i + pushed i) at n ws))) ≡ ordinaryTo x (s .depth - popped i + pushed i) at n (six ws)
       go (passed pc) = refl
       go (refused n) = refl
 
@@ -74,7 +74,7 @@ entryAt i = entryOf (rowOf (i .opcode))
 abbrev pub locatedAt : State → Instruction → ℕ → ℕ → Located
 locatedAt s i first depth = locatedOf (entryAt i) (i .operand .index) (low 32 (i .operand .constant)) (s .pc + i .size) first depth
 
-module _ (l : Lent) (s : State) (i : Instruction) (f : Sound (l .code) (s .pc) i) where
+module _ (l : Method) (s : State) (i : Instruction) (f : Sound (l .code) (s .pc) i) where
   pub shared-is : sharedIn (entryAt i) ≡ sharedOf (f .row)
   shared-is = rw (f .found) (digits (i .opcode) (f .row) (f .found) .shared)
 
@@ -119,7 +119,7 @@ module _ (l : Lent) (s : State) (i : Instruction) (f : Sound (l .code) (s .pc) i
         })
 
     -- once four words are what it works on
-    module _ (slots : List ℕ) (framed : frameAsked l s slots ≡ passed tt) (at : fetched (l .code) (s .pc) ≡ passed i) (needed : needsAsked l s i ≡ passed tt) where
+    module _ (slots : List ℕ) (framed : frameCheck l s slots ≡ passed tt) (at : fetched (l .code) (s .pc) ≡ passed i) (needed : needsCheck l s i ≡ passed tt) where
       pub from-words : (a b c d : ℕ) → wordsAt (i .rule .reads) l s (frame s slots) i ≡ take (works (i .rule)) (a ∷ b ∷ c ∷ d ∷ [])
           → finishOf (l .code) (s .pc) (locatedAt s i first depth) a (effectAt (sharedIn (entryAt i)) (low 32 (i .operand .constant)) a b c d) ≡ decideOf l s slots
       from-words a b c d w =

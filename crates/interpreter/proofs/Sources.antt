@@ -9,11 +9,11 @@ use lib.ListN.{length, take, drop, getD, length-drop}
 use lib.Seq.{length-take-le}
 use Rattle.values.specs.Kinds.{Kind, int, long, float, double, places, placesOf}
 use Rattle.rules.specs.declared.State.{State}
-use Rattle.rules.specs.Asked.{passed, _else_}
+use Rattle.rules.specs.Check.{passed, _else_}
 use Rattle.rules.specs.Forms.{Rule, Source, stack, local, pool}
 use Rattle.rules.specs.Instructions.{rowOf}
 use Rattle.rules.specs.Fetch.{Instruction, fetched}
-use Rattle.rules.specs.Questions.{Lent, popped, pushed, constantThere, frameAsked, needsAsked}
+use Rattle.rules.specs.Questions.{Method, popped, pushed, constantThere, frameCheck, needsCheck}
 use Rattle.rules.specs.Step.{base, decideOf}
 use Rattle.rules.proofs.Rows.{of-row, small, small-row, one-named, local-within, works, works-few}
 use Rattle.rules.proofs.Questions.{framed, needed}
@@ -36,7 +36,7 @@ one-or-two (a ∷ []) n e h = rw (sym e)
 one-or-two (a ∷ b ∷ []) n e h = rw (sym e)
 one-or-two (a ∷ b ∷ c ∷ ws) n e h = absurd (omega arith)
 
-module _ (l : Lent) (s : State) (slots : List ℕ) (passes : frameAsked l s slots ≡ passed tt) (i : Instruction) (at : fetched (l .code) (s .pc) ≡ passed i) (first depth : ℕ) (st : Stands l s i first depth) where
+module _ (l : Method) (s : State) (slots : List ℕ) (passes : frameCheck l s slots ≡ passed tt) (i : Instruction) (at : fetched (l .code) (s .pc) ≡ passed i) (first depth : ℕ) (st : Stands l s i first depth) where
   sound : Sound (l .code) (s .pc) i
   sound = fetched-sound (l .code) (s .pc) i at
 
@@ -52,7 +52,7 @@ module _ (l : Lent) (s : State) (slots : List ℕ) (passes : frameAsked l s slot
     no-constant : i .rule .constants ≡ []
     no-constant = ap (λ (r : Rule). r .constants) (sound .ruled) ∙ row-constants (i .opcode) (sound .row) (sound .found) ∙ none
 
-    needs-pass : needsAsked l s i ≡ passed tt
+    needs-pass : needsCheck l s i ≡ passed tt
     unfolding _else_
     needs-pass = st .asked ∙ rw no-constant refl
 
@@ -90,7 +90,7 @@ module _ (l : Lent) (s : State) (slots : List ℕ) (passes : frameAsked l s slot
     unfolding locatedOf constantOf _else_
     in-pool = go (constantThere (l .kinds) (i .operand .index) (j ∷ k ∷ [])) refl
       where
-        asks : (t : Bool) → constantThere (l .kinds) (i .operand .index) (j ∷ k ∷ []) ≡ t → needsAsked l s i ≡ (t else 10)
+        asks : (t : Bool) → constantThere (l .kinds) (i .operand .index) (j ∷ k ∷ []) ≡ t → needsCheck l s i ≡ (t else 10)
         asks t e = st .asked ∙ ap (λ (u : Bool). u else 10) (ap (constantThere (l .kinds) (i .operand .index)) its-kinds ∙ e)
 
         go : (t : Bool) → constantThere (l .kinds) (i .operand .index) (j ∷ k ∷ []) ≡ t

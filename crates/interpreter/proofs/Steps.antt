@@ -13,8 +13,8 @@ use Rattle.rules.specs.declared.Update.{Update}
 use Rattle.rules.specs.declared.Decision.{Decision}
 use Rattle.rules.specs.declared.Decision.the-variants.{Ordinary, Return, Throw, Refused}
 use Rattle.rules.proofs.Decision.{the-type}
-use Rattle.rules.specs.Asked.{passed}
-use Rattle.rules.specs.Questions.{Lent, frameAsked}
+use Rattle.rules.specs.Check.{passed}
+use Rattle.rules.specs.Questions.{Method, frameCheck}
 use Rattle.rules.specs.Step.{decideOf, moved, written}
 use Rattle.rules.proofs.Questions.{frame-passed}
 use Rattle.rules.proofs.Legal.{ordinary-legal, written-length, still-framed}
@@ -29,7 +29,7 @@ not-other u h = ⊎-elim (λ z. omega arith) (⊎-elim (λ z. omega arith) (λ z
 
 -- ---- steps, by the first decision
 
-module _ (l : Lent) (n : ℕ) (s : State) (slots : List ℕ) where
+module _ (l : Method) (n : ℕ) (s : State) (slots : List ℕ) where
   pub advance-ordinary : (most : ℕ) (u : Update) → decideOf l s slots ≡ Ordinary u
       → advanceFrom l (suc most) n s slots ≡ advanceFrom l most (suc n) (moved s (u .pc) (u .depth) 0) (written u slots)
   unfolding advanceFrom
@@ -48,7 +48,7 @@ module _ (l : Lent) (n : ℕ) (s : State) (slots : List ℕ) where
   advance-none = refl
 
 -- no step at all: the decision, and everything as it was
-module _ (l : Lent) (s : State) (slots : List ℕ) (r : Reached) (e : r ≡ advanceFrom l 0 0 s slots) where
+module _ (l : Method) (s : State) (slots : List ℕ) (r : Reached) (e : r ≡ advanceFrom l 0 0 s slots) where
   pub decided-there : r .decision ≡ decideOf l s slots
   decided-there = ap (λ (x : Reached). x .decision) (e ∙ advance-none l 0 s slots)
 
@@ -61,13 +61,13 @@ module _ (l : Lent) (s : State) (slots : List ℕ) (r : Reached) (e : r ≡ adva
 -- ---- the loop
 
 -- its invariant: questions 1 to 3 stay passed, and the steps that are left lead where all of them lead
-pub record Going (l : Lent) (slots₀ : List ℕ) (most : ℕ) (s₀ : State) (slots : List ℕ) (s : State) (n : ℕ) : Type 0 where
+pub record Going (l : Method) (slots₀ : List ℕ) (most : ℕ) (s₀ : State) (slots : List ℕ) (s : State) (n : ℕ) : Type 0 where
   pub upto : n ≤ most
   pub long : length slots ≡ length slots₀
-  pub framed : frameAsked l s slots ≡ passed tt
+  pub framed : frameCheck l s slots ≡ passed tt
   pub rest : advanceFrom l (most - n) n s slots ≡ advanceFrom l most 0 s₀ slots₀
 
-module _ (l : Lent) (slots₀ : List ℕ) (most : ℕ) (s₀ : State) (slots : List ℕ) (s : State) (n : ℕ) (g : Going l slots₀ most s₀ slots s n) where
+module _ (l : Method) (slots₀ : List ℕ) (most : ℕ) (s₀ : State) (slots : List ℕ) (s : State) (n : ℕ) (g : Going l slots₀ most s₀ slots s n) where
   pub turn : (n ≡ most → ⊥) → (u : Update) → decideOf l s slots ≡ Ordinary u → Going l slots₀ most s₀ (written u slots) (moved s (u .pc) (u .depth) 0) (n + 1)
   turn h u e =
       let legal = ordinary-legal l s slots u e in

@@ -10,8 +10,8 @@ use Rattle.rules.specs.declared.Update.{Update}
 use Rattle.rules.specs.declared.Decision.{Decision}
 use Rattle.rules.specs.declared.Decision.the-variants.{Ordinary, Return, Throw, Refused}
 use Rattle.rules.specs.declared.End.the-variants as End
-use Rattle.rules.specs.Asked.{passed, refused}
-use Rattle.rules.specs.Questions.{Lent, frameAsked}
+use Rattle.rules.specs.Check.{passed, refused}
+use Rattle.rules.specs.Questions.{Method, frameCheck}
 use Rattle.rules.specs.Step.{decideOf, moved, written, stepBy, stepOf}
 use Rattle.rules.specs.Run.{Ran, ends, runFrom, runOf, Told}
 use Rattle.rules.proofs.Step.{run-ordinary, run-return, run-throw, run-refused, run-stopped}
@@ -22,7 +22,7 @@ use Rattle.interpreter.proofs.Steps.{Other, not-other, advance-ordinary
 
 -- ---- a step: no step before it
 
-module _ (l : Lent) (s : State) (slots : List ℕ) (r : Reached) (e : r ≡ advanceFrom l 0 0 s slots) where
+module _ (l : Method) (s : State) (slots : List ℕ) (r : Reached) (e : r ≡ advanceFrom l 0 0 s slots) where
   step-by : stepBy s (r .slots) (r .decision) ≡ stepOf l s slots
   unfolding stepOf
   step-by = rw (slots-there l s slots r e, decided-there l s slots r e)
@@ -56,7 +56,7 @@ last-other s n slots (Return v) h = refl
 last-other s n slots Throw h = refl
 last-other s n slots (Refused k) h = refl
 
-module _ (l : Lent) where
+module _ (l : Method) where
   run-one : (n : ℕ) (s : State) (slots : List ℕ) (d : Decision) → decideOf l s slots ≡ d → runFrom l 1 n s slots ≡ lastStep s n slots d
   run-one n s slots (Ordinary u) e = run-ordinary l 0 n s slots u e ∙ run-stopped l (suc n) (moved s (u .pc) (u .depth) 0) (written u slots)
   run-one n s slots (Return v) e = run-return l 0 n s slots v e
@@ -89,7 +89,7 @@ module _ (l : Lent) where
       go (Refused k) e h = rw (advance-other l n s slots (suc most) (Refused k) e (inr (inr refl))) (sym e)
 
 -- a run with a budget, from where all its steps but the last led
-module _ (l : Lent) (budget : ℕ) (s : State) (slots : List ℕ) where
+module _ (l : Method) (budget : ℕ) (s : State) (slots : List ℕ) where
   pub no-budget : budget ≡ 0 → ends s slots 0 End.Stopped ≡ runFrom l budget 0 s slots
   no-budget h = sym (run-stopped l 0 s slots) ∙ ap (λ (b : ℕ). runFrom l b 0 s slots) (sym h)
 
@@ -110,15 +110,15 @@ module _ (l : Lent) (budget : ℕ) (s : State) (slots : List ℕ) where
 
 -- ---- a whole run
 
-module _ (l : Lent) (budget : ℕ) (s : State) (slots : List ℕ) where
+module _ (l : Method) (budget : ℕ) (s : State) (slots : List ℕ) where
   -- what is the rules' run says of itself what they say
   pub told : (r : Ran) → r ≡ runOf l budget s slots → (r ≡ runOf l budget s slots) × Told l budget s slots r
   told r e = (e, subst (Told l budget s slots) (sym e) (run-told l budget s slots))
 
-  pub refused-run : (k : ℕ) → frameAsked l s slots ≡ refused k → record { state = s; steps = 0; end = End.Refused k; slots = slots } ≡ runOf l budget s slots
+  pub refused-run : (k : ℕ) → frameCheck l s slots ≡ refused k → record { state = s; steps = 0; end = End.Refused k; slots = slots } ≡ runOf l budget s slots
   unfolding runOf
   refused-run k e = rw e
 
-  pub passed-run : frameAsked l s slots ≡ passed tt → runFrom l budget 0 s slots ≡ runOf l budget s slots
+  pub passed-run : frameCheck l s slots ≡ passed tt → runFrom l budget 0 s slots ≡ runOf l budget s slots
   unfolding runOf
   passed-run e = rw e

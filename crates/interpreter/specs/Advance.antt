@@ -4,7 +4,7 @@ use mathlib.Core.List.{List}
 use Rattle.rules.specs.declared.State.{State}
 use Rattle.rules.specs.declared.Decision.{Decision}
 use Rattle.rules.specs.declared.Decision.the-variants.{Ordinary, Return, Throw, Refused}
-use Rattle.rules.specs.Questions.{Lent}
+use Rattle.rules.specs.Questions.{Method}
 use Rattle.rules.specs.Step.{decideOf, moved, written}
 
 -- the state and the slots that steps led to, how many they were, and the decision of the next
@@ -18,7 +18,7 @@ abbrev pub stands : State → ℕ → List ℕ → Decision → Reached
 stands s n slots d = record { state = s; steps = n; decision = d; slots = slots }
 
 -- at most so many steps, n being taken already: fewer where the rules decide otherwise
-unfoldable pub advanceFrom : Lent → ℕ → ℕ → State → List ℕ → Reached
+unfoldable pub advanceFrom : Method → ℕ → ℕ → State → List ℕ → Reached
 advanceFrom l zero n s slots = stands s n slots (decideOf l s slots)
 advanceFrom l (suc most) n s slots =
     elim (decideOf l s slots) [

@@ -11,9 +11,9 @@ use Rattle.values.specs.Integers.{_≤ᶻ_}
 use Rattle.values.specs.Words.{meaning}
 use Rattle.rules.specs.declared.Decision.{Decision}
 use Rattle.rules.specs.declared.Decision.the-variants as Decision
-use Rattle.rules.specs.Asked.{Asked, passed, refused}
+use Rattle.rules.specs.Check.{Check, passed, refused}
 use Rattle.rules.specs.Fetch.{lowKey, highKey, tableOperand, pairCount, pairsOperand}
-use Rattle.rules.specs.Questions.{Lent}
+use Rattle.rules.specs.Questions.{Method}
 use Rattle.rules.specs.Step.{firstPlace, inside}
 use Rattle.operands.specs.Switch.{offsetIn}
 use Rattle.const_pool.specs.declared.Constant.{Constant}
@@ -77,7 +77,7 @@ abbrev pub noWords : Six
 noWords = record { w0 = 0; w1 = 0; w2 = 0; w3 = 0; w4 = 0; w5 = 0 }
 
 -- by the answer to question 10
-unfoldable pub ordinaryTo : Asked ℕ → ℕ → ℕ → ℕ → Six → Decision
+unfoldable pub ordinaryTo : Check ℕ → ℕ → ℕ → ℕ → Six → Decision
 ordinaryTo (passed pc) depth first many w =
     Decision.Ordinary (record { pc = pc; depth = depth; first = firstPlace first many; many = many; w0 = w .w0; w1 = w .w1; w2 = w .w2; w3 = w .w3; w4 = w .w4; w5 = w .w5 })
 ordinaryTo (refused n) depth first many w = Decision.Refused n
@@ -108,5 +108,5 @@ abbrev pub readDecision : List ℕ → ℕ → Located → Read → Decision
 readDecision code pc i (Read.Words w) = finishOf code pc i (w .a) (effectAt (i .op) (i .constant) (w .a) (w .b) (w .c) (w .d))
 readDecision code pc i Read.Missing = Decision.Refused 10
 
-unfoldable pub locatedDecision : Lent → List ℕ → ℕ → Located → Decision
+unfoldable pub locatedDecision : Method → List ℕ → ℕ → Located → Decision
 locatedDecision l slots pc i = readDecision (l .code) pc i (readOf (l .kinds) (l .words) slots (i .op) (i .index) (i .base))

@@ -2,15 +2,15 @@
 // decision of a step is compiled into one loop.
 use crate::deciding::decide_framed;
 use crate::stepping::moved;
-use frame::FrameAsked;
-use frame::ask_frame;
+use frame::FrameCheck;
+use frame::check_frame;
 use frame::commit;
 use rules::Decision;
 use rules::State;
 ghost use mathlib.Core.Path.{_≡_};
 ghost use Prim.Native.Nat.{_≤_};
-ghost use Rattle.rules.specs.Asked.{passed};
-ghost use Rattle.rules.specs.Questions.{lent, frameAsked};
+ghost use Rattle.rules.specs.Check.{passed};
+ghost use Rattle.rules.specs.Questions.{method, frameCheck};
 ghost use Rattle.interpreter.specs.Advance.{advanceFrom};
 ghost use Rattle.interpreter.specs.Taken.{reached};
 
@@ -30,8 +30,8 @@ pub(crate) fn advance_framed(
     s: State,
     most: u64,
 ) -> Reached
-    requires { ⌜ frameAsked (lent (now code) (now kinds) (now words)) s (now slots) ≡ passed tt ⌝ }
-    ensures { λ r. ⌜ reached r (now (slots .exit)) ≡ advanceFrom (lent (now (code .entry)) (now (kinds .entry)) (now (words .entry))) most 0 s (now (slots .entry)) ⌝ }
+    requires { ⌜ frameCheck (method (now code) (now kinds) (now words)) s (now slots) ≡ passed tt ⌝ }
+    ensures { λ r. ⌜ reached r (now (slots .exit)) ≡ advanceFrom (method (now (code .entry)) (now (kinds .entry)) (now (words .entry))) most 0 s (now (slots .entry)) ⌝ }
     ensures { λ r. ⌜ r .steps ≤ most ⌝ }
 {
     let mut t = s;
@@ -67,15 +67,15 @@ pub fn advance(
     s: State,
     most: u64,
 ) -> Reached
-    ensures { λ r. ⌜ reached r (now (slots .exit)) ≡ advanceFrom (lent (now (code .entry)) (now (kinds .entry)) (now (words .entry))) most 0 s (now (slots .entry)) ⌝ }
+    ensures { λ r. ⌜ reached r (now (slots .exit)) ≡ advanceFrom (method (now (code .entry)) (now (kinds .entry)) (now (words .entry))) most 0 s (now (slots .entry)) ⌝ }
 {
-    let asked = ask_frame(code, kinds, words, slots, s);
+    let asked = check_frame(code, kinds, words, slots, s);
     match asked {
-        FrameAsked::Refused(n) => Reached {
+        FrameCheck::Refused(n) => Reached {
             state: s,
             steps: 0,
             decision: Decision::Refused(n),
         },
-        FrameAsked::Passed => advance_framed(code, kinds, words, slots, s, most),
+        FrameCheck::Passed => advance_framed(code, kinds, words, slots, s, most),
     }
 }

@@ -5,9 +5,9 @@ use crate::finishing::locate;
 use crate::reading::Read;
 use crate::reading::read_words;
 use effects::effect;
-use frame::FrameAsked;
+use frame::FrameCheck;
 use frame::Placed;
-use frame::ask_frame;
+use frame::check_frame;
 use frame::place;
 use instructions::Decoded;
 use instructions::decode;
@@ -19,8 +19,8 @@ ghost use Prim.Native.Nat.{_≤_};
 ghost use lib.ListN.{length};
 ghost use Rattle.instructions.specs.Table.{isIn};
 ghost use Rattle.effects.specs.Families.{sharedOpcodes};
-ghost use Rattle.rules.specs.Asked.{passed};
-ghost use Rattle.rules.specs.Questions.{lent, frameAsked};
+ghost use Rattle.rules.specs.Check.{passed};
+ghost use Rattle.rules.specs.Questions.{method, frameCheck};
 ghost use Rattle.rules.specs.Step.{decideOf};
 ghost use Rattle.interpreter.specs.Stages.{switchThere, locatedDecision};
 
@@ -36,7 +36,7 @@ fn decide_located(
     requires { ⌜ length (now code) ≤ 65535 ⌝ }
     requires { ⌜ isIn sharedOpcodes (i .op) ≡ true ⌝ }
     requires { ⌜ switchThere (now code) pc (i .op) ≡ true ⌝ }
-    ensures { λ r. ⌜ r ≡ locatedDecision (lent (now (code .entry)) (now (kinds .entry)) (now (words .entry))) (now (slots .entry)) pc i ⌝ }
+    ensures { λ r. ⌜ r ≡ locatedDecision (method (now (code .entry)) (now (kinds .entry)) (now (words .entry))) (now (slots .entry)) pc i ⌝ }
 {
     let read = read_words(kinds, words, slots, i.op, i.index, i.base);
     let Read::Words(w) = read else {
@@ -54,8 +54,8 @@ pub(crate) fn decide_framed(
     slots: &[u32],
     s: State,
 ) -> Decision
-    requires { ⌜ frameAsked (lent (now code) (now kinds) (now words)) s (now slots) ≡ passed tt ⌝ }
-    ensures { λ r. ⌜ r ≡ decideOf (lent (now (code .entry)) (now (kinds .entry)) (now (words .entry))) s (now (slots .entry)) ⌝ }
+    requires { ⌜ frameCheck (method (now code) (now kinds) (now words)) s (now slots) ≡ passed tt ⌝ }
+    ensures { λ r. ⌜ r ≡ decideOf (method (now (code .entry)) (now (kinds .entry)) (now (words .entry))) s (now (slots .entry)) ⌝ }
 {
     let pc = s.pc;
     let decoded = decode(code, pc);
@@ -82,11 +82,11 @@ pub(crate) fn decide_framed(
 
 // One step on any code, pool, slots and state.
 pub fn decide(code: &[u8], kinds: &[u8], words: &[u32], slots: &[u32], s: State) -> Decision
-    ensures { λ r. ⌜ r ≡ decideOf (lent (now (code .entry)) (now (kinds .entry)) (now (words .entry))) s (now (slots .entry)) ⌝ }
+    ensures { λ r. ⌜ r ≡ decideOf (method (now (code .entry)) (now (kinds .entry)) (now (words .entry))) s (now (slots .entry)) ⌝ }
 {
-    let asked = ask_frame(code, kinds, words, slots, s);
+    let asked = check_frame(code, kinds, words, slots, s);
     match asked {
-        FrameAsked::Refused(n) => Decision::Refused(n),
-        FrameAsked::Passed => decide_framed(code, kinds, words, slots, s),
+        FrameCheck::Refused(n) => Decision::Refused(n),
+        FrameCheck::Passed => decide_framed(code, kinds, words, slots, s),
     }
 }

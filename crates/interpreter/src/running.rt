@@ -1,15 +1,15 @@
 // A run: ordinary steps, one after the other, up to a budget.
 use crate::advancing::advance_framed;
 use crate::stepping::moved;
-use frame::FrameAsked;
-use frame::ask_frame;
+use frame::FrameCheck;
+use frame::check_frame;
 use frame::commit;
 use rules::Decision;
 use rules::End;
 use rules::State;
 ghost use mathlib.Core.Path.{_≡_};
-ghost use Rattle.rules.specs.Asked.{passed};
-ghost use Rattle.rules.specs.Questions.{lent, frameAsked};
+ghost use Rattle.rules.specs.Check.{passed};
+ghost use Rattle.rules.specs.Questions.{method, frameCheck};
 ghost use Rattle.rules.specs.Run.{runFrom, runOf, Told};
 ghost use Rattle.interpreter.specs.Taken.{ran, endOf, endedAt};
 
@@ -49,8 +49,8 @@ fn run_framed(
     s: State,
     budget: u64,
 ) -> Ran
-    requires { ⌜ frameAsked (lent (now code) (now kinds) (now words)) s (now slots) ≡ passed tt ⌝ }
-    ensures { λ r. ⌜ ran r (now (slots .exit)) ≡ runFrom (lent (now (code .entry)) (now (kinds .entry)) (now (words .entry))) budget 0 s (now (slots .entry)) ⌝ }
+    requires { ⌜ frameCheck (method (now code) (now kinds) (now words)) s (now slots) ≡ passed tt ⌝ }
+    ensures { λ r. ⌜ ran r (now (slots .exit)) ≡ runFrom (method (now (code .entry)) (now (kinds .entry)) (now (words .entry))) budget 0 s (now (slots .entry)) ⌝ }
 {
     if budget == 0 {
         return ended(s, 0, End::Stopped);
@@ -81,16 +81,16 @@ pub fn run(
     s: State,
     budget: u64,
 ) -> Ran
-    ensures { λ r. ⌜ ran r (now (slots .exit)) ≡ runOf (lent (now (code .entry)) (now (kinds .entry)) (now (words .entry))) budget s (now (slots .entry)) ⌝ }
-    ensures { λ r. ⌜ Told (lent (now (code .entry)) (now (kinds .entry)) (now (words .entry))) budget s (now (slots .entry)) (ran r (now (slots .exit))) ⌝ }
+    ensures { λ r. ⌜ ran r (now (slots .exit)) ≡ runOf (method (now (code .entry)) (now (kinds .entry)) (now (words .entry))) budget s (now (slots .entry)) ⌝ }
+    ensures { λ r. ⌜ Told (method (now (code .entry)) (now (kinds .entry)) (now (words .entry))) budget s (now (slots .entry)) (ran r (now (slots .exit))) ⌝ }
 {
-    let asked = ask_frame(code, kinds, words, slots, s);
+    let asked = check_frame(code, kinds, words, slots, s);
     match asked {
-        FrameAsked::Refused(n) => Ran {
+        FrameCheck::Refused(n) => Ran {
             state: s,
             steps: 0,
             end: End::Refused(n),
         },
-        FrameAsked::Passed => run_framed(code, kinds, words, slots, s, budget),
+        FrameCheck::Passed => run_framed(code, kinds, words, slots, s, budget),
     }
 }

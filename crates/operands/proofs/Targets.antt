@@ -7,7 +7,7 @@ use lib.IntN.{ℤ, pos, negsuc, _+ℤ_}
 use lib.ListN.{length}
 use borrow.Author.Tests.{lt-ltb, le-ltb}
 use Rattle.values.specs.Integers.{signed}
-use Rattle.rules.specs.Asked.{_else_, _>>_}
+use Rattle.rules.specs.Check.{_else_, _>>_}
 use Rattle.rules.specs.Step.{inside}
 use Rattle.operands.specs.declared.jump.Target.the-variants.{At, Outside}
 use Rattle.operands.specs.Target.{targetOf}

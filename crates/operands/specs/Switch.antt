@@ -5,12 +5,12 @@ use mathlib.Core.List.{List, [], _∷_}
 use lib.IntN.{ℤ}
 use Rattle.values.specs.Integers.{low, _=ᶻ_}
 use Rattle.rules.specs.Forms.{Operand, offsetFor}
-use Rattle.rules.specs.Asked.{Asked, passed, refused}
+use Rattle.rules.specs.Check.{Check, passed, refused}
 use Rattle.rules.specs.Fetch.{Instruction}
 use Rattle.operands.specs.declared.switches.Switch.{Switch}
 use Rattle.operands.specs.declared.switches.Switch.the-variants.{Accepted, Refused}
 
-unfoldable pub switchOf : Asked Instruction → Switch
+unfoldable pub switchOf : Check Instruction → Switch
 switchOf (passed i) = Accepted (i .size) (low 32 (i .operand .constant))
 switchOf (refused n) = Refused n
 

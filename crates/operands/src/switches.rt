@@ -7,7 +7,7 @@ ghost use Rattle.values.specs.Kinds.{int};
 ghost use Rattle.values.specs.Integers.{_<ᶻ_, _≤ᶻ_};
 ghost use Rattle.values.specs.Words.{meaning};
 ghost use Rattle.rules.specs.Forms.{Row};
-ghost use Rattle.rules.specs.Fetch.{aligned, lowKey, highKey, tableOperand, tableAsked, pairsFrom, rising, pairCount, pairsOperand, lookupAsked};
+ghost use Rattle.rules.specs.Fetch.{aligned, lowKey, highKey, tableOperand, tableCheck, pairsFrom, rising, pairCount, pairsOperand, lookupCheck};
 ghost use Rattle.operands.specs.Switch.{switchOf, offsetIn, keyIndex};
 use crate::bytes::read_code_u32;
 use integers::icmpeq;
@@ -29,7 +29,7 @@ fn after_padding(pc: u32) -> usize
 
 // TABLESWITCH: its fixed fields, the order of its lowest and highest key, and its whole table.
 pub fn table_switch(code: &[u8], pc: u32) -> Switch
-    ensures { λ r. ⌜ ((row : Row) → r ≡ switchOf (tableAsked (now (code .entry)) pc row)) ⌝ }
+    ensures { λ r. ⌜ ((row : Row) → r ≡ switchOf (tableCheck (now (code .entry)) pc row)) ⌝ }
 {
     let at = after_padding(pc);
     if code.len() < at + 12 {
@@ -98,7 +98,7 @@ fn keys_rise(code: &[u8], at: usize, n: usize) -> bool
 
 // LOOKUPSWITCH: its fixed fields, its count of pairs, its whole table and the order of all its keys.
 pub fn lookup_switch(code: &[u8], pc: u32) -> Switch
-    ensures { λ r. ⌜ ((row : Row) → r ≡ switchOf (lookupAsked (now (code .entry)) pc row)) ⌝ }
+    ensures { λ r. ⌜ ((row : Row) → r ≡ switchOf (lookupCheck (now (code .entry)) pc row)) ⌝ }
 {
     let at = after_padding(pc);
     if code.len() < at + 8 {

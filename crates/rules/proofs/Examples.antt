@@ -1,18 +1,68 @@
 -- The marked examples of document 01 as one table, and its printed walk. Assumes nothing.
+use Prim.Native.Nat.{ℕ, _-_}
 use mathlib.Core.Path.{_≡_, refl}
-use mathlib.Core.List.{[], _∷_}
+use mathlib.Core.List.{List, [], _∷_, _++_}
+use lib.ListN.{length, getD, replicate}
+use lib.Ieee as Ieee
 use Rattle.values.specs.declared.Value.the-variants.{Int}
+use Rattle.values.specs.Integers.{signed, low, bitwise, flipped}
+use Rattle.values.specs.Floats.{nearest}
+use Rattle.rules.specs.declared.State.{State}
+use Rattle.rules.specs.declared.Decision.{Decision}
+use Rattle.rules.specs.declared.Decision.the-variants.{Ordinary}
 use Rattle.rules.specs.declared.End.the-variants as End
-use Rattle.rules.specs.Fetch.{aligned}
-use Rattle.rules.specs.Questions.{lent}
-use Rattle.rules.proofs.Given.{state, decided, changes, ran, on, leaves}
+use Rattle.rules.specs.Check.{_else_, _>>_, _>>=_}
+use Rattle.rules.specs.Instructions.{rowOf}
+use Rattle.rules.specs.Fetch.{wideCheck, tableCheck, lookupCheck, offsetsFrom, pairsFrom, fetched, aligned}
+use Rattle.rules.specs.Questions.{Method, method, frameCheck, needsCheck}
+use Rattle.rules.specs.Step.{decideOf}
+use Rattle.rules.specs.Run.{Ran, runFrom, runOf}
+
+-- ---- the step and the run on given lists and numbers, open to computation
+
+abbrev pub state : ℕ → ℕ → ℕ → ℕ → ℕ → State
+state stack locals pc depth count = record { «max_stack» = stack; «max_locals» = locals; pc = pc; depth = depth; count = count }
+
+-- an ordinary step to an offset and a depth that writes these words from a place on, written out
+abbrev pub changes : ℕ → ℕ → ℕ → List ℕ → Decision
+changes pc depth first ws =
+    Ordinary (record {
+      pc = pc;
+      depth = depth;
+      first = first;
+      many = length ws;
+      w0 = getD ws 0 0;
+      w1 = getD ws 1 0;
+      w2 = getD ws 2 0;
+      w3 = getD ws 3 0;
+      w4 = getD ws 4 0;
+      w5 = getD ws 5 0;
+    })
+
+unfoldable pub decided : Method → State → List ℕ → Decision
+unfolding decideOf frameCheck fetched needsCheck wideCheck tableCheck lookupCheck offsetsFrom pairsFrom rowOf _else_ _>>_ _>>=_
+    signed low bitwise flipped nearest Ieee.ofBits Ieee.toBits Ieee.ofInt Ieee.toSigned Ieee.round Ieee.add Ieee.sub Ieee.mul Ieee.div Ieee.rem Ieee.lt Ieee.eq
+decided l s slots = decideOf l s slots
+
+unfoldable pub ran : Method → ℕ → State → List ℕ → Ran
+unfolding runOf runFrom decided
+ran l budget s slots = runOf l budget s slots
+
+-- one instruction of one byte, on an operand stack that holds these words, lowest first, and room for eight
+unfoldable pub on : ℕ → List ℕ → Decision
+unfolding decided
+on op ws = decided (method (op ∷ 0 ∷ []) [] []) (state 8 0 0 (length ws) 0) (ws ++ replicate (8 - length ws) 0)
+
+-- it leaves these words, all of them pushed
+abbrev pub leaves : List ℕ → Decision
+leaves ws = changes 1 (length ws) 0 ws
 
 -- ---- marked examples for the key
 
 pub record Marked : Type 0 where
   pub idiv-minimum : on 108 (0x80000000 ∷ 0xffffffff ∷ []) ≡ leaves (0x80000000 ∷ [])
   pub irem-minimum : on 112 (0x80000000 ∷ 0xffffffff ∷ []) ≡ leaves (0 ∷ [])
-  pub iinc-255 : decided (lent (132 ∷ 0 ∷ 255 ∷ 0 ∷ []) [] []) (state 0 1 0 0 0) (0 ∷ []) ≡ changes 3 0 0 (0xffffffff ∷ [])
+  pub iinc-255 : decided (method (132 ∷ 0 ∷ 255 ∷ 0 ∷ []) [] []) (state 0 1 0 0 0) (0 ∷ []) ≡ changes 3 0 0 (0xffffffff ∷ [])
   pub lcmp-minimum : on 148 (0 ∷ 0x80000000 ∷ 1 ∷ 0 ∷ []) ≡ leaves (0xffffffff ∷ [])
   pub f2i-large : on 139 (0x4f000000 ∷ []) ≡ leaves (0x7fffffff ∷ [])
   pub f2i-nan : on 139 (0x7fc00000 ∷ []) ≡ leaves (0 ∷ [])
@@ -51,6 +101,6 @@ marked =
 
 -- ---- the printed walk: 3 + 4, returned after three ordinary steps
 
-pub printed : ran (lent (6 ∷ 7 ∷ 0x60 ∷ 0xac ∷ []) [] []) 1600 (state 2 0 0 0 0) (0 ∷ 0 ∷ []) ≡ record { state = state 2 0 3 1 0; steps = 3; end = End.Return (Int 7); slots = 7 ∷ 4 ∷ [] }
+pub printed : ran (method (6 ∷ 7 ∷ 0x60 ∷ 0xac ∷ []) [] []) 1600 (state 2 0 0 0 0) (0 ∷ 0 ∷ []) ≡ record { state = state 2 0 3 1 0; steps = 3; end = End.Return (Int 7); slots = 7 ∷ 4 ∷ [] }
 unfolding ran
 printed = refl

@@ -12,12 +12,12 @@ use lib.ListN.{length}
 use borrow.Author.Tests.{leb-true, ltb-true, ltb-false}
 use Rattle.values.specs.Integers.{signed, low, _≤ᶻ_}
 use Rattle.values.proofs.Integers.{signed-plus, signed-minus, low-plus, low-minus}
-use Rattle.rules.specs.Asked.{passed}
+use Rattle.rules.specs.Check.{passed}
 use Rattle.rules.specs.Forms.{Row, Format, alone, implied, byte, short, index, index2, index-const, branch, branch4, table, pairs, widened}
 use Rattle.rules.specs.Instructions.{instructions, rowOf}
 use Rattle.rules.specs.Fetch.{Instruction, instruction, operands, u8, core, coreRow, byFormat, fetched}
-use Rattle.rules.specs.Fetch.{widens, wideAsked, aligned, lowKey, highKey, tableAsked, tableEnd, tableOperand, pairCount, lookupAsked, pairsEnd, pairsOperand}
-use Rattle.rules.proofs.Asked.{Holds, asked, bound, held, either}
+use Rattle.rules.specs.Fetch.{widens, wideCheck, aligned, lowKey, highKey, tableCheck, tableEnd, tableOperand, pairCount, lookupCheck, pairsEnd, pairsOperand}
+use Rattle.rules.proofs.Check.{Holds, asked, bound, held, either}
 use Rattle.rules.proofs.Rows.{OfRow, every-row, of-row, own-opcode}
 
 core-row : (o : Option Row) (r : Row) → coreRow o ≡ passed r → o ≡ some r
@@ -148,7 +148,7 @@ module _ (code : List ℕ) (pc : ℕ) where
       }
 
   by-format : (r : Row) → rowOf (r .opcode) ≡ some r → (f : Format) → r .format ≡ f → Holds S (byFormat code pc r f)
-  unfolding Holds isSwitch wideAsked tableAsked lookupAsked
+  unfolding Holds isSwitch wideCheck tableCheck lookupCheck
   by-format r own alone e = asked S _ 5 _ (λ l. plain r own (ap isSwitch e) _ _ _ int-0 l)
   by-format r own (implied n) e = asked S _ 5 _ (λ l. plain r own (ap isSwitch e) _ _ _ int-0 l)
   by-format r own byte e = asked S _ 5 _ (λ l. plain r own (ap isSwitch e) _ _ _ (int-8 _) l)

@@ -11,25 +11,25 @@ use Rattle.rules.specs.declared.State.{State}
 use Rattle.rules.specs.declared.Update.{Update}
 use Rattle.rules.specs.declared.Decision.{Decision}
 use Rattle.rules.specs.declared.Pressed.the-variants.{Refused}
-use Rattle.rules.specs.Asked.{Asked, passed, refused, _else_, _>>_, isPassed}
-use Rattle.rules.specs.Questions.{Lent, frameAsked}
+use Rattle.rules.specs.Check.{Check, passed, refused, _else_, _>>_, isPassed}
+use Rattle.rules.specs.Questions.{Method, frameCheck}
 use Rattle.rules.specs.Step.{decideOf}
-use Rattle.rules.specs.History.{kept, entryAt, granted, logAsked, grantedBy, forwardBy, forwardOf, entryAsked, backAsked, backBy, backOf}
-use Rattle.rules.proofs.Asked.{first-passed, last-passed, both-passed}
+use Rattle.rules.specs.History.{kept, entryAt, granted, logCheck, grantedBy, forwardBy, forwardOf, entryCheck, backCheck, backBy, backOf}
+use Rattle.rules.proofs.Check.{first-passed, last-passed, both-passed}
 use Rattle.rules.proofs.Questions.{framed}
 
 -- ---- forward
 
 module _ (s : State) (slots log : List ℕ) where
-  pub forward-by : (l : Lent) (d : Decision) → decideOf l s slots ≡ d → forwardOf l s slots log ≡ forwardBy s slots log d
+  pub forward-by : (l : Method) (d : Decision) → decideOf l s slots ≡ d → forwardOf l s slots log ≡ forwardBy s slots log d
   unfolding forwardOf
   forward-by l d e = rw e
 
-  pub with-room : (u : Update) → entryAt (s .count) + 10 ≤ length log → granted s slots log u ≡ grantedBy s slots log u (logAsked (s .count) (length log))
+  pub with-room : (u : Update) → entryAt (s .count) + 10 ≤ length log → granted s slots log u ≡ grantedBy s slots log u (logCheck (s .count) (length log))
   unfolding _else_
   with-room u h = rw (le-leb (entryAt (s .count) + 10) (length log) h)
 
-  pub without-room : (u : Update) → length log < entryAt (s .count) + 10 → kept s slots log (Refused 12) ≡ grantedBy s slots log u (logAsked (s .count) (length log))
+  pub without-room : (u : Update) → length log < entryAt (s .count) + 10 → kept s slots log (Refused 12) ≡ grantedBy s slots log u (logCheck (s .count) (length log))
   unfolding _else_
   without-room u h = rw (lt-leb (entryAt (s .count) + 10) (length log) h)
 
@@ -41,8 +41,8 @@ pub record Restorable (s : State) (log : List ℕ) (k : ℕ) : Type 0 where
   pub within : 0 < getD log (k + 3) 0 → getD log (k + 2) 0 + getD log (k + 3) 0 ≤ s .«max_locals» + s .«max_stack»
 
 module _ (code : List ℕ) (s : State) (log : List ℕ) (k : ℕ) where
-  pub restorable : entryAsked code s log k ≡ passed tt → Restorable s log k
-  unfolding entryAsked
+  pub restorable : entryCheck code s log k ≡ passed tt → Restorable s log k
+  unfolding entryCheck
   restorable e =
       let a = first-passed _ 14 _ e in
       let b = first-passed _ 14 _ (a .1) in
@@ -55,8 +55,8 @@ module _ (code : List ℕ) (s : State) (log : List ℕ) (k : ℕ) where
       of-two false e h t = leb-true _ _ h
 
   -- the one number that a no gives
-  pub not-sound : isPassed (entryAsked code s log k) ≡ false → entryAsked code s log k ≡ refused 14
-  unfolding entryAsked _else_ _>>_
+  pub not-sound : isPassed (entryCheck code s log k) ≡ false → entryCheck code s log k ≡ refused 14
+  unfolding entryCheck _else_ _>>_
   not-sound e = go (ltb (getD log k 0) (length code)) (leb (getD log (k + 1) 0) (s .«max_stack»)) (leb (getD log (k + 3) 0) 6)
       (eqb (getD log (k + 3) 0) 0 || leb (getD log (k + 2) 0 + getD log (k + 3) 0) (s .«max_locals» + s .«max_stack»)) e
     where
@@ -69,23 +69,23 @@ module _ (code : List ℕ) (s : State) (log : List ℕ) (k : ℕ) where
 
 -- ---- the questions of back
 
-module _ (l : Lent) (s : State) (slots log : List ℕ) where
-  pub back-frame : (n : ℕ) → frameAsked l s slots ≡ refused n → backAsked l s slots log ≡ refused n
-  unfolding backAsked _>>_
+module _ (l : Method) (s : State) (slots log : List ℕ) where
+  pub back-frame : (n : ℕ) → frameCheck l s slots ≡ refused n → backCheck l s slots log ≡ refused n
+  unfolding backCheck _>>_
   back-frame n e = rw e
 
-  module _ (framed : frameAsked l s slots ≡ passed tt) where
-    pub back-first : s .count ≡ 0 → backAsked l s slots log ≡ refused 13
-    unfolding backAsked _else_ _>>_
+  module _ (framed : frameCheck l s slots ≡ passed tt) where
+    pub back-first : s .count ≡ 0 → backCheck l s slots log ≡ refused 13
+    unfolding backCheck _else_ _>>_
     back-first h = rw (framed, h)
 
     module _ (some : 0 < s .count) where
-      pub back-short : length log < entryAt (s .count) → backAsked l s slots log ≡ refused 14
-      unfolding backAsked _else_ _>>_
+      pub back-short : length log < entryAt (s .count) → backCheck l s slots log ≡ refused 14
+      unfolding backCheck _else_ _>>_
       back-short h = rw (framed, lt-ltb _ _ some, lt-leb _ _ h)
 
-      pub back-entry : entryAt (s .count) ≤ length log → backAsked l s slots log ≡ entryAsked (l .code) s log (entryAt (s .count - 1))
-      unfolding backAsked _else_ _>>_
+      pub back-entry : entryAt (s .count) ≤ length log → backCheck l s slots log ≡ entryCheck (l .code) s log (entryAt (s .count - 1))
+      unfolding backCheck _else_ _>>_
       back-entry h = rw (framed, lt-ltb _ _ some, le-leb _ _ h)
 
   -- what a yes to all of them says: the entry's words can be written
@@ -95,10 +95,10 @@ module _ (l : Lent) (s : State) (slots log : List ℕ) where
     pub few : getD log (entryAt (s .count - 1) + 3) 0 ≤ 6
     pub within : 0 < getD log (entryAt (s .count - 1) + 3) 0 → getD log (entryAt (s .count - 1) + 2) 0 + getD log (entryAt (s .count - 1) + 3) 0 ≤ length slots
 
-  pub back-passed : backAsked l s slots log ≡ passed tt → BackPassed
-  unfolding backAsked
+  pub back-passed : backCheck l s slots log ≡ passed tt → BackPassed
+  unfolding backCheck
   back-passed e =
-      let a = both-passed (frameAsked l s slots) _ e in
+      let a = both-passed (frameCheck l s slots) _ e in
       let b = first-passed _ 13 _ (a .1) in
       let c = first-passed _ 14 _ (b .1) in
       let f = framed l s slots (a .0) in
@@ -110,6 +110,6 @@ module _ (l : Lent) (s : State) (slots log : List ℕ) where
         within = λ h. omega (arith, r .within h, f .room);
       }
 
-  pub back-by : (x : Asked (Unit {0})) → backAsked l s slots log ≡ x → backOf l s slots log ≡ backBy s slots log x
+  pub back-by : (x : Check (Unit {0})) → backCheck l s slots log ≡ x → backOf l s slots log ≡ backBy s slots log x
   unfolding backOf
   back-by x e = rw e

@@ -14,19 +14,19 @@ use Rattle.rules.specs.declared.State.{State}
 use Rattle.rules.specs.declared.Update.{Update}
 use Rattle.rules.specs.declared.Decision.{Decision}
 use Rattle.rules.specs.declared.Decision.the-variants.{Ordinary, Return, Throw, Refused}
-use Rattle.rules.specs.Asked.{Asked, passed, refused}
+use Rattle.rules.specs.Check.{Check, passed, refused}
 use Rattle.rules.specs.Forms.{Result, pushes, stores, divides, branches, returns}
 use Rattle.rules.specs.Instructions.{rowOf}
 use Rattle.rules.specs.Fetch.{Instruction, fetched}
-use Rattle.rules.specs.Questions.{Lent, pushed, frameAsked, needsAsked}
+use Rattle.rules.specs.Questions.{Method, pushed, frameCheck, needsCheck}
 use Rattle.rules.specs.Step.{base, firstPlace, inside, ordinary, following, target, outcome, decision, decideOf, moved, updateWords, written}
-use Rattle.rules.proofs.Asked.{Holds, asked, after, bound, held, either}
+use Rattle.rules.proofs.Check.{Holds, asked, after, bound, held, either}
 use Rattle.rules.proofs.Rows.{of-row, small, small-row, few-pushed, one-named, few-named, local-within}
 use Rattle.rules.proofs.Questions.{Framed, framed, Needed, needed}
 use Rattle.rules.proofs.Step.{result}
 use Rattle.rules.proofs.Fetched.{fetched-sound}
 
-pub record Legal (l : Lent) (s : State) (slots : List ℕ) (u : Update) : Type 0 where
+pub record Legal (l : Method) (s : State) (slots : List ℕ) (u : Update) : Type 0 where
   pub frame-there : Framed l s slots
   pub new-pc : u .pc < length (l .code)
   pub new-depth : u .depth ≤ s .«max_stack»
@@ -52,11 +52,11 @@ fetched-small code pc i e =
 
 -- ---- an ordinary step
 
-module _ (l : Lent) (s : State) (slots : List ℕ) where
+module _ (l : Method) (s : State) (slots : List ℕ) where
   Fine : Decision → Type 0
   Fine d = IfOrdinary (Legal l s slots) d
 
-  decision-fine : (x : Asked Decision) → Holds Fine x → Fine (decision x)
+  decision-fine : (x : Check Decision) → Holds Fine x → Fine (decision x)
   unfolding Holds Fine
   decision-fine (passed d) h = h
   decision-fine (refused n) h = tt
@@ -112,14 +112,14 @@ module _ (l : Lent) (s : State) (slots : List ℕ) where
   pub decide-legal : IfOrdinary (Legal l s slots) (decideOf l s slots)
   unfolding decideOf Fine
   decide-legal = decision-fine _
-      (after Fine (frameAsked l s slots) _ (λ e1.
+      (after Fine (frameCheck l s slots) _ (λ e1.
       bound Fine (fetched (l .code) (s .pc)) _ (λ i e2.
-      after Fine (needsAsked l s i) _ (λ e3.
+      after Fine (needsCheck l s i) _ (λ e3.
       outcome-fine (framed l s slots e1) i (fetched-small (l .code) (s .pc) i e2) (needed l s i e3) (result l s slots i)))))
 
 -- ---- and so the frame stands after it
 
-module _ (l : Lent) (s : State) (slots : List ℕ) (u : Update) (legal : Legal l s slots u) where
+module _ (l : Method) (s : State) (slots : List ℕ) (u : Update) (legal : Legal l s slots u) where
   pub written-length : length (written u slots) ≡ length slots
   written-length = let f = legal .frame-there in length-paste slots (u .first) (updateWords u) (u .many) (omega (arith, legal .within, f .room)) (legal .few)
 
@@ -136,5 +136,5 @@ module _ (l : Lent) (s : State) (slots : List ℕ) (u : Update) (legal : Legal l
         deep = legal .new-depth;
       }
 
-pub ordinary-legal : (l : Lent) (s : State) (slots : List ℕ) (u : Update) → decideOf l s slots ≡ Ordinary u → Legal l s slots u
+pub ordinary-legal : (l : Method) (s : State) (slots : List ℕ) (u : Update) → decideOf l s slots ≡ Ordinary u → Legal l s slots u
 ordinary-legal l s slots u e = subst (IfOrdinary (Legal l s slots)) e (decide-legal l s slots)

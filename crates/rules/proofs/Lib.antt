@@ -1,5 +1,5 @@
 -- Laws that other crates cite
-pub mod Asked
+pub mod Check
 pub mod Rows
 pub mod Questions
 pub mod Step
@@ -15,11 +15,5 @@ pub mod OnePress
 pub mod Walk
 pub mod Replay
 -- Examples, which only the checker reads
-mod Given
 mod Examples
 mod Shapes
-mod Facts
-mod Refusals
-mod Walks
-mod Sheets
-mod Presses

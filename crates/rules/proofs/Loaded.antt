@@ -11,12 +11,12 @@ use borrow.Author.Tests.{leb-true, le-leb, eqb-true}
 use Rattle.rules.specs.declared.Reading.{Reading}
 use Rattle.rules.specs.declared.State.{State}
 use Rattle.rules.specs.declared.Load.the-variants as Load
-use Rattle.rules.specs.Asked.{Asked, passed, refused, _>>=_, _>>_}
+use Rattle.rules.specs.Check.{Check, passed, refused, _>>=_, _>>_}
 use Rattle.rules.specs.Fetch.{u8, u32}
-use Rattle.rules.specs.Questions.{lent, frameAsked}
+use Rattle.rules.specs.Questions.{method, frameCheck}
 use Rattle.rules.specs.Step.{frame}
-use Rattle.rules.specs.Sheet.{recordEnd, bodyAt, poolIndex, isWide, sheetAsked, memoryAsked, Pool, withWords, withValue, poolFrom, loadedPool, argumentsFrom, loadedFrame, loadedSlots, loadedState, loadBy, loadOf, codeOf}
-use Rattle.rules.proofs.Asked.{first-passed, last-passed}
+use Rattle.rules.specs.Sheet.{recordEnd, bodyAt, poolIndex, isWide, sheetCheck, memoryCheck, Pool, withWords, withValue, poolFrom, loadedPool, argumentsFrom, loadedFrame, loadedSlots, loadedState, loadBy, loadOf, codeOf}
+use Rattle.rules.proofs.Check.{first-passed, last-passed}
 use Rattle.rules.proofs.Questions.{Framed, frame-passed}
 use Rattle.rules.proofs.Sheet.{Within, sheet-within, code-at-12}
 
@@ -57,7 +57,7 @@ length-arguments sheet at (suc n) = ap suc (length-arguments sheet (at + 4) n)
 
 -- ---- an accepted load
 
-module _ (sheet slots kinds words : List ℕ) (bytes : (i : ℕ) → u8 sheet i < 256) (p : Reading) (read : sheetAsked sheet ≡ passed p) (fits : memoryAsked p slots kinds words ≡ passed tt) where
+module _ (sheet slots kinds words : List ℕ) (bytes : (i : ℕ) → u8 sheet i < 256) (p : Reading) (read : sheetCheck sheet ≡ passed p) (fits : memoryCheck p slots kinds words ≡ passed tt) where
   abbrev state : State
   state = loadedState (p .«max_stack») (p .«max_locals»)
 
@@ -90,8 +90,8 @@ module _ (sheet slots kinds words : List ℕ) (bytes : (i : ℕ) → u8 sheet i 
   pub beyond-is : drop (p .«max_locals» + p .«max_stack») (loadedSlots sheet p slots) ≡ drop (p .«max_locals» + p .«max_stack») slots
   beyond-is = drop-at (loadedFrame sheet p) (drop (p .«max_locals» + p .«max_stack») slots) (p .«max_locals» + p .«max_stack») frame-length
 
-  pub loaded-framed : Framed (lent code (loadedPool sheet p kinds words .kinds) (loadedPool sheet p kinds words .words)) state (loadedSlots sheet p slots)
-  unfolding memoryAsked
+  pub loaded-framed : Framed (method code (loadedPool sheet p kinds words .kinds) (loadedPool sheet p kinds words .words)) state (loadedSlots sheet p slots)
+  unfolding memoryCheck
   loaded-framed =
       let e = last in
       let a = first-passed _ 26 _ fits in
@@ -112,13 +112,13 @@ module _ (sheet slots kinds words : List ℕ) (bytes : (i : ℕ) → u8 sheet i 
         deep = omega arith;
       }
 
-  pub loaded-passes : frameAsked (lent code (loadedPool sheet p kinds words .kinds) (loadedPool sheet p kinds words .words)) state (loadedSlots sheet p slots) ≡ passed tt
-  loaded-passes = frame-passed (lent code (loadedPool sheet p kinds words .kinds) (loadedPool sheet p kinds words .words)) state (loadedSlots sheet p slots) loaded-framed
+  pub loaded-passes : frameCheck (method code (loadedPool sheet p kinds words .kinds) (loadedPool sheet p kinds words .words)) state (loadedSlots sheet p slots) ≡ passed tt
+  loaded-passes = frame-passed (method code (loadedPool sheet p kinds words .kinds) (loadedPool sheet p kinds words .words)) state (loadedSlots sheet p slots) loaded-framed
 
 -- ---- where an accepted load says that the code lies
 
 module _ (sheet slots kinds words : List ℕ) (bytes : (i : ℕ) → u8 sheet i < 256) (s : State) (at n : ℕ) where
-  by-reading : (p : Reading) → sheetAsked sheet ≡ passed p → (x : Asked (Unit {0})) → loadBy sheet slots kinds words (x >> passed p) .load ≡ Load.Accepted s at n → (at ≡ 12) × (n ≤ 65535)
+  by-reading : (p : Reading) → sheetCheck sheet ≡ passed p → (x : Check (Unit {0})) → loadBy sheet slots kinds words (x >> passed p) .load ≡ Load.Accepted s at n → (at ≡ 12) × (n ≤ 65535)
   unfolding _>>_
   by-reading p q (passed t) h =
       let e : p .code ≡ at = cc in
@@ -128,8 +128,8 @@ module _ (sheet slots kinds words : List ℕ) (bytes : (i : ℕ) → u8 sheet i 
 
   pub accepted-where : loadOf sheet slots kinds words .load ≡ Load.Accepted s at n → (at ≡ 12) × (n ≤ 65535)
   unfolding loadOf _>>=_
-  accepted-where h = go (sheetAsked sheet) refl h
+  accepted-where h = go (sheetCheck sheet) refl h
     where
-      go : (x : Asked Reading) → sheetAsked sheet ≡ x → loadBy sheet slots kinds words (x >>= λ p. memoryAsked p slots kinds words >> passed p) .load ≡ Load.Accepted s at n → (at ≡ 12) × (n ≤ 65535)
-      go (passed p) q k = by-reading p q (memoryAsked p slots kinds words) k
+      go : (x : Check Reading) → sheetCheck sheet ≡ x → loadBy sheet slots kinds words (x >>= λ p. memoryCheck p slots kinds words >> passed p) .load ≡ Load.Accepted s at n → (at ≡ 12) × (n ≤ 65535)
+      go (passed p) q k = by-reading p q (memoryCheck p slots kinds words) k
       go (refused m) q k = let z : _≡_ {A = ℕ} 0 1 = cc in absurd (omega arith)

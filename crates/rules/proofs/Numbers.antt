@@ -12,11 +12,11 @@ use Rattle.values.specs.Kinds.{placesOf}
 use Rattle.rules.specs.declared.State.{State}
 use Rattle.rules.specs.declared.Decision.{Decision}
 use Rattle.rules.specs.declared.Decision.the-variants.{Ordinary, Return, Throw, Refused}
-use Rattle.rules.specs.Asked.{Asked, passed, refused, _else_, _>>=_, _>>_, _≤ⁿ_, _=ⁿ_}
+use Rattle.rules.specs.Check.{Check, passed, refused, _else_, _>>=_, _>>_, _≤ⁿ_, _=ⁿ_}
 use Rattle.rules.specs.Forms.{Row, Operand, Format, alone, implied, byte, short, index, index2, index-const, branch, branch4, table, pairs, widened, Result, pushes, stores, divides, branches, returns}
 use Rattle.rules.specs.Instructions.{rowOf}
-use Rattle.rules.specs.Fetch.{u8, Instruction, coreRow, core, sized, wideOpcode, wideAsked, tableAsked, lookupAsked, byFormat, fetched}
-use Rattle.rules.specs.Questions.{Lent, pushed, frameAsked, needsAsked}
+use Rattle.rules.specs.Fetch.{u8, Instruction, coreRow, core, sized, wideOpcode, wideCheck, tableCheck, lookupCheck, byFormat, fetched}
+use Rattle.rules.specs.Questions.{Method, pushed, frameCheck, needsCheck}
 use Rattle.rules.specs.Step.{base, inside, ordinary, following, target, outcome, decision, decideOf}
 use Rattle.rules.proofs.Step.{result}
 
@@ -26,7 +26,7 @@ abbrev pub OfStep : ℕ → Type 0
 OfStep n = ((1 ≤ⁿ n) && (n ≤ⁿ 11)) ≡ true
 
 -- its refusals have such numbers, and P holds of what passes it
-unfoldable Numbered : {A : Type 0} → (A → Type 0) → Asked A → Type 0
+unfoldable Numbered : {A : Type 0} → (A → Type 0) → Check A → Type 0
 Numbered P (passed a) = P a
 Numbered P (refused n) = OfStep n
 
@@ -39,27 +39,27 @@ last true n h = tt
 last false n h = h
 
 module _ {A : Type 0} (P : A → Type 0) where
-  after : {B : Type 0} (x : Asked B) (y : Asked A) → Numbered Any x → Numbered P y → Numbered P (x >> y)
+  after : {B : Type 0} (x : Check B) (y : Check A) → Numbered Any x → Numbered P y → Numbered P (x >> y)
   unfolding Numbered _>>_
   after (passed b) y h k = k
   after (refused n) y h k = h
 
-  bound : {B : Type 0} (x : Asked B) (f : B → Asked A) → Numbered Any x → ((b : B) → Numbered P (f b)) → Numbered P (x >>= f)
+  bound : {B : Type 0} (x : Check B) (f : B → Check A) → Numbered Any x → ((b : B) → Numbered P (f b)) → Numbered P (x >>= f)
   unfolding Numbered _>>=_
   bound (passed b) f h k = k b
   bound (refused n) f h k = h
 
-  asked : (t : Bool) (n : ℕ) (y : Asked A) → OfStep n → Numbered P y → Numbered P ((t else n) >> y)
+  asked : (t : Bool) (n : ℕ) (y : Check A) → OfStep n → Numbered P y → Numbered P ((t else n) >> y)
   asked t n y h k = after (t else n) y (last t n h) k
 
-  either : (t : Bool) (x y : Asked A) → Numbered P x → Numbered P y → Numbered P (cond t x y)
+  either : (t : Bool) (x y : Check A) → Numbered P x → Numbered P y → Numbered P (cond t x y)
   either true x y h k = h
   either false x y h k = k
 
 -- ---- the questions of a step
 
-frame-numbered : (l : Lent) (s : State) (slots : List ℕ) → Numbered Any (frameAsked l s slots)
-unfolding frameAsked
+frame-numbered : (l : Method) (s : State) (slots : List ℕ) → Numbered Any (frameCheck l s slots)
+unfolding frameCheck
 frame-numbered l s slots =
     asked Any _ 1 _ refl (asked Any _ 1 _ refl (asked Any _ 1 _ refl (asked Any _ 2 _ refl (asked Any _ 2 _ refl (asked Any _ 2 _ refl (last _ 3 refl))))))
 
@@ -73,14 +73,14 @@ module _ (code : List ℕ) (pc : ℕ) where
   unfolding Numbered
   sized-numbered r n o = asked Any _ 5 _ refl tt
 
-  wide-numbered : Numbered Any (wideAsked code pc)
-  unfolding wideAsked
+  wide-numbered : Numbered Any (wideCheck code pc)
+  unfolding wideCheck
   wide-numbered =
       asked Any _ 5 _ refl (asked Any _ 4 _ refl (bound Any (core (wideOpcode code pc)) _ (core-numbered (rowOf (wideOpcode code pc))) (λ r.
       either Any (wideOpcode code pc =ⁿ 132) _ _ (sized-numbered r 6 _) (sized-numbered r 4 _))))
 
   format-numbered : (r : Row) (f : Format) → Numbered Any (byFormat code pc r f)
-  unfolding Numbered tableAsked lookupAsked
+  unfolding Numbered tableCheck lookupCheck
   format-numbered r alone = sized-numbered r 1 _
   format-numbered r (implied n) = sized-numbered r 1 _
   format-numbered r byte = sized-numbered r 2 _
@@ -106,14 +106,14 @@ IfRefused (Return v) = Unit {0}
 IfRefused Throw = Unit {0}
 IfRefused (Refused n) = OfStep n
 
-decision-numbered : (x : Asked Decision) → Numbered IfRefused x → IfRefused (decision x)
+decision-numbered : (x : Check Decision) → Numbered IfRefused x → IfRefused (decision x)
 unfolding Numbered
 decision-numbered (passed d) h = h
 decision-numbered (refused n) h = h
 
-module _ (l : Lent) (s : State) where
-  needs-numbered : (i : Instruction) → Numbered Any (needsAsked l s i)
-  unfolding needsAsked
+module _ (l : Method) (s : State) where
+  needs-numbered : (i : Instruction) → Numbered Any (needsCheck l s i)
+  unfolding needsCheck
   needs-numbered i = asked Any _ 7 _ refl (asked Any _ 8 _ refl (asked Any _ 9 _ refl (last _ 10 refl)))
 
   inside-numbered : (to : ℤ) → Numbered Any (inside (l .code) to)
@@ -137,9 +137,9 @@ module _ (l : Lent) (s : State) where
   pub decide-numbered : (slots : List ℕ) → IfRefused (decideOf l s slots)
   unfolding decideOf
   decide-numbered slots = decision-numbered _
-      (after IfRefused (frameAsked l s slots) _ (frame-numbered l s slots)
+      (after IfRefused (frameCheck l s slots) _ (frame-numbered l s slots)
       (bound IfRefused (fetched (l .code) (s .pc)) _ (fetch-numbered (l .code) (s .pc)) (λ i.
-      after IfRefused (needsAsked l s i) _ (needs-numbered i) (outcome-numbered i (result l s slots i)))))
+      after IfRefused (needsCheck l s i) _ (needs-numbered i) (outcome-numbered i (result l s slots i)))))
 
 -- so it is not 14
 pub not-14 : (n : ℕ) → OfStep n → eqb n 14 ≡ false

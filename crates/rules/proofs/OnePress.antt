@@ -17,11 +17,11 @@ use Rattle.rules.specs.declared.Decision.{Decision}
 use Rattle.rules.specs.declared.Decision.the-variants as Decision
 use Rattle.rules.specs.declared.Pressed.{Pressed}
 use Rattle.rules.specs.declared.Pressed.the-variants.{Granted, Return, Throw, Refused}
-use Rattle.rules.specs.Asked.{passed, refused, _else_, _>>_}
-use Rattle.rules.specs.Questions.{Lent, frameAsked}
+use Rattle.rules.specs.Check.{passed, refused, _else_, _>>_}
+use Rattle.rules.specs.Questions.{Method, frameCheck}
 use Rattle.rules.specs.Step.{frame, decideOf, moved, updateWords, written}
 use Rattle.rules.specs.Run.{uncounted}
-use Rattle.rules.specs.History.{Out, kept, zeros6, oldWords, undoRecord, granted, grantedBy, forwardBy, forwardOf, entryAsked, backAsked, restored, backBy, backOf}
+use Rattle.rules.specs.History.{Out, kept, zeros6, oldWords, undoRecord, granted, grantedBy, forwardBy, forwardOf, entryCheck, backCheck, restored, backBy, backOf}
 use Rattle.rules.specs.Walk.{Stage, stageOf, decisionAt, followBy, next, stage, Press, forward, back, askedAnswer, forwardAnswer, plainAnswer, netAfter, pressOf}
 use Rattle.rules.proofs.Questions.{Framed, frame-passed}
 use Rattle.rules.proofs.Run.{count-unseen}
@@ -33,7 +33,7 @@ size s = s .«max_locals» + s .«max_stack»
 
 -- ---- the rules read the frame and no other slot
 
-module _ (l : Lent) (s : State) (slots : List ℕ) (f : Framed l s slots) where
+module _ (l : Method) (s : State) (slots : List ℕ) (f : Framed l s slots) where
   pub frame-length : length (frame s slots) ≡ size s
   frame-length = length-take-le (size s) slots (f .room)
 
@@ -47,7 +47,7 @@ module _ (l : Lent) (s : State) (slots : List ℕ) (f : Framed l s slots) where
       ∙ rw (frame-passed l s (frame s slots) frame-framed, frame-passed l s slots f, take-take (size s) (size s) slots (omega arith))
 
 -- so what they say of a state is what they say of its stage, in a method of the same sizes
-pub decides : (l : Lent) (s₀ s : State) (slots : List ℕ) → Framed l s slots → s .«max_stack» ≡ s₀ .«max_stack» → s .«max_locals» ≡ s₀ .«max_locals» → decideOf l s slots ≡ decisionAt l s₀ (stageOf s slots)
+pub decides : (l : Method) (s₀ s : State) (slots : List ℕ) → Framed l s slots → s .«max_stack» ≡ s₀ .«max_stack» → s .«max_locals» ≡ s₀ .«max_locals» → decideOf l s slots ≡ decisionAt l s₀ (stageOf s slots)
 decides l s₀ s slots f a b = sym (frame-only l s slots f) ∙ ap (λ (x : State). decideOf l x (frame s slots)) here
   where
     here : uncounted s ≡ moved s₀ (s .pc) (s .depth) 0
@@ -62,19 +62,19 @@ undoBy t (Decision.Return v) = []
 undoBy t Decision.Throw = []
 undoBy t (Decision.Refused n) = []
 
-abbrev pub undoOf : Lent → State → Option Stage → List ℕ
+abbrev pub undoOf : Method → State → Option Stage → List ℕ
 undoOf l s none = []
 undoOf l s (some t) = undoBy t (decisionAt l s t)
 
 -- the step that led to a stage
-record Led (l : Lent) (s : State) (o : Option Stage) (b : Stage) : Type 0 where
+record Led (l : Method) (s : State) (o : Option Stage) (b : Stage) : Type 0 where
   from : Stage
   by : Update
   is-stage : o ≡ some from
   is-decision : decisionAt l s from ≡ Decision.Ordinary by
   is-next : record { pc = by .pc; depth = by .depth; frame = written by (from .frame) } ≡ b
 
-led : (l : Lent) (s : State) (o : Option Stage) (b : Stage) → next l s o ≡ some b → Led l s o b
+led : (l : Method) (s : State) (o : Option Stage) (b : Stage) → next l s o ≡ some b → Led l s o b
 led l s none b e = let z : _≡_ {A = ℕ} 0 1 = cc in absurd (omega arith)
 led l s (some t) b e = go (decisionAt l s t) refl e
   where
@@ -84,11 +84,11 @@ led l s (some t) b e = go (decisionAt l s t) refl e
     go Decision.Throw q h = let z : _≡_ {A = ℕ} 0 1 = cc in absurd (omega arith)
     go (Decision.Refused n) q h = let z : _≡_ {A = ℕ} 0 1 = cc in absurd (omega arith)
 
-pub led-legal : (l : Lent) (s : State) (t : Stage) (u : Update) → decisionAt l s t ≡ Decision.Ordinary u → Legal l (moved s (t .pc) (t .depth) 0) (t .frame) u
+pub led-legal : (l : Method) (s : State) (t : Stage) (u : Update) → decisionAt l s t ≡ Decision.Ordinary u → Legal l (moved s (t .pc) (t .depth) 0) (t .frame) u
 led-legal l s t u e = ordinary-legal l (moved s (t .pc) (t .depth) 0) (t .frame) u e
 
 -- every stage's frame has as many places as the first
-frames : (l : Lent) (s : State) (t₀ : Stage) → length (t₀ .frame) ≡ size s → (n : ℕ) (t : Stage) → stage l s t₀ n ≡ some t → length (t .frame) ≡ size s
+frames : (l : Method) (s : State) (t₀ : Stage) → length (t₀ .frame) ≡ size s → (n : ℕ) (t : Stage) → stage l s t₀ n ≡ some t → length (t .frame) ≡ size s
 unfolding stage
 frames l s t₀ h zero t q = let z : t₀ ≡ t = cc in rw (← z) h
 frames l s t₀ h (suc n) t q =
@@ -111,7 +111,7 @@ record-frame pc depth first many p words h k =
 
 -- ---- THE INVARIANT: a walk that began at s₀ and slots₀, with t₀ as its stage 0 and a log of `room` words, stands at net
 
-pub record Stands (l : Lent) (s₀ : State) (t₀ : Stage) (slots₀ : List ℕ) (room net : ℕ) (s : State) (slots log : List ℕ) : Type 0 where
+pub record Stands (l : Method) (s₀ : State) (t₀ : Stage) (slots₀ : List ℕ) (room net : ℕ) (s : State) (slots log : List ℕ) : Type 0 where
   pub at-stage : stage l s₀ t₀ net ≡ some (stageOf s slots)
   pub beyond : drop (size s₀) slots ≡ drop (size s₀) slots₀
   pub counted : s .count ≡ net
@@ -123,11 +123,11 @@ pub record Stands (l : Lent) (s₀ : State) (t₀ : Stage) (slots₀ : List ℕ)
   pub undoes : (i : ℕ) → i < net → take 10 (drop (10 * i) log) ≡ undoOf l s₀ (stage l s₀ t₀ i)
 
 -- a press's answer is a, and the walk stands at net afterwards
-pub record Agrees (l : Lent) (s₀ : State) (t₀ : Stage) (slots₀ : List ℕ) (room net : ℕ) (a : Pressed) (o : Out) : Type 0 where
+pub record Agrees (l : Method) (s₀ : State) (t₀ : Stage) (slots₀ : List ℕ) (room net : ℕ) (a : Pressed) (o : Out) : Type 0 where
   pub answered : o .answer ≡ a
   pub stands : Stands l s₀ t₀ slots₀ room net (o .state) (o .slots) (o .log)
 
-module _ (l : Lent) (s₀ : State) (t₀ : Stage) (slots₀ : List ℕ) (room : ℕ) (whole : length (t₀ .frame) ≡ size s₀) where
+module _ (l : Method) (s₀ : State) (t₀ : Stage) (slots₀ : List ℕ) (room : ℕ) (whole : length (t₀ .frame) ≡ size s₀) where
   module _ (net : ℕ) (s : State) (slots log : List ℕ) (c : Stands l s₀ t₀ slots₀ room net s slots log) where
     same-size : size s ≡ size s₀
     same-size = let a = c .stacked in let b = c .localed in omega arith
@@ -245,8 +245,8 @@ module _ (l : Lent) (s₀ : State) (t₀ : Stage) (slots₀ : List ℕ) (room : 
           ∙ ap (λ (x : ℕ). take x (oldWords (last .from .frame) (last .by .first) (last .by .many))) (sym (zero-add (last .by .many)))
           ∙ take-paste zeros6 0 (drop (last .by .first) (last .from .frame)) (last .by .many) (omega arith) (omega (arith, last-frame, g .within, length-drop (last .by .first) (last .from .frame)))
 
-      back-sound : entryAsked (l .code) s log (10 * k) ≡ passed tt
-      unfolding entryAsked _else_ _>>_
+      back-sound : entryCheck (l .code) s log (10 * k) ≡ passed tt
+      unfolding entryCheck _else_ _>>_
       back-sound =
           let g = last-legal in
           let f = g .frame-there in
@@ -289,15 +289,15 @@ module _ (l : Lent) (s₀ : State) (t₀ : Stage) (slots₀ : List ℕ) (room : 
             };
           })
 
-    passes : frameAsked l s slots ≡ passed tt
+    passes : frameCheck l s slots ≡ passed tt
     passes = frame-passed l s slots (c .framed)
 
-    back-none : ltb 0 net ≡ false → backAsked l s slots log ≡ refused 13
-    unfolding backAsked _else_ _>>_
+    back-none : ltb 0 net ≡ false → backCheck l s slots log ≡ refused 13
+    unfolding backCheck _else_ _>>_
     back-none t = rw (passes, ap (ltb 0) (c .counted) ∙ t)
 
-    back-some : (k : ℕ) → net ≡ suc k → s .count - 1 ≡ k → backAsked l s slots log ≡ passed tt
-    unfolding backAsked _else_ _>>_
+    back-some : (k : ℕ) → net ≡ suc k → s .count - 1 ≡ k → backCheck l s slots log ≡ passed tt
+    unfolding backCheck _else_ _>>_
     back-some k n e =
         rw (passes, lt-ltb 0 (s .count) (omega (arith, c .counted)), le-leb (10 * s .count) (length log) (omega (arith, c .counted, c .reached, c .roomy)), e) (back-sound k n)
 
@@ -305,7 +305,7 @@ module _ (l : Lent) (s₀ : State) (t₀ : Stage) (slots₀ : List ℕ) (room : 
     unfolding backOf plainAnswer
     back-agrees = go (ltb 0 net) refl
       where
-        go : (b : Bool) → ltb 0 net ≡ b → Agrees l s₀ t₀ slots₀ room (netAfter back net (cond b Granted (Refused 13))) (cond b Granted (Refused 13)) (backBy s slots log (backAsked l s slots log))
+        go : (b : Bool) → ltb 0 net ≡ b → Agrees l s₀ t₀ slots₀ room (netAfter back net (cond b Granted (Refused 13))) (cond b Granted (Refused 13)) (backBy s slots log (backCheck l s slots log))
         go true t =
             let p = ltb-true 0 net t in
             let n : net ≡ suc (s .count - 1) = omega (arith, c .counted) in

@@ -9,16 +9,16 @@ use lib.ListN.{length}
 use borrow.Author.Tests.{lt-ltb, le-ltb, le-leb, lt-leb, eq-eqb, ne-eqb, ltb-true, leb-true, eqb-true}
 use Rattle.values.specs.Integers.{_≤ᶻ_}
 use Rattle.rules.specs.declared.State.{State}
-use Rattle.rules.specs.Asked.{passed, refused, _else_, _>>_, _>>=_}
+use Rattle.rules.specs.Check.{passed, refused, _else_, _>>_, _>>=_}
 use Rattle.rules.specs.Forms.{Row, Operand}
 use Rattle.rules.specs.Instructions.{rowOf}
-use Rattle.rules.specs.Fetch.{Instruction, instruction, operands, u8, u16, s16, sized, widens, wideOpcode, wideAsked, aligned, lowKey, highKey, tableEnd, tableOperand, tableAsked, pairCount, keyPairs, pairsEnd, pairsOperand, rising, lookupAsked, byFormat, fetched}
-use Rattle.rules.specs.Questions.{Lent, popped, pushed, localsBelow, constantThere, frameAsked, needsAsked}
-use Rattle.rules.proofs.Asked.{first-passed, last-passed}
+use Rattle.rules.specs.Fetch.{Instruction, instruction, operands, u8, u16, s16, sized, widens, wideOpcode, wideCheck, aligned, lowKey, highKey, tableEnd, tableOperand, tableCheck, pairCount, keyPairs, pairsEnd, pairsOperand, rising, lookupCheck, byFormat, fetched}
+use Rattle.rules.specs.Questions.{Method, popped, pushed, localsBelow, constantThere, frameCheck, needsCheck}
+use Rattle.rules.proofs.Check.{first-passed, last-passed}
 
 -- ---- questions 1 to 3
 
-pub record Framed (l : Lent) (s : State) (slots : List ℕ) : Type 0 where
+pub record Framed (l : Method) (s : State) (slots : List ℕ) : Type 0 where
   pub paired : length (l .kinds) ≡ length (l .words)
   pub pool : length (l .kinds) ≤ 65536
   pub room : s .«max_locals» + s .«max_stack» ≤ length slots
@@ -27,9 +27,9 @@ pub record Framed (l : Lent) (s : State) (slots : List ℕ) : Type 0 where
   pub in-code : s .pc < length (l .code)
   pub deep : s .depth ≤ s .«max_stack»
 
-module _ (l : Lent) (s : State) (slots : List ℕ) where
-  pub framed : frameAsked l s slots ≡ passed tt → Framed l s slots
-  unfolding frameAsked
+module _ (l : Method) (s : State) (slots : List ℕ) where
+  pub framed : frameCheck l s slots ≡ passed tt → Framed l s slots
+  unfolding frameCheck
   framed e =
       let a = first-passed _ 1 _ e in
       let b = first-passed _ 1 _ (a .1) in
@@ -47,44 +47,44 @@ module _ (l : Lent) (s : State) (slots : List ℕ) where
         deep = leb-true _ _ (last-passed _ 3 (g .1));
       }
 
-  pub frame-passed : Framed l s slots → frameAsked l s slots ≡ passed tt
-  unfolding frameAsked _else_ _>>_
+  pub frame-passed : Framed l s slots → frameCheck l s slots ≡ passed tt
+  unfolding frameCheck _else_ _>>_
   frame-passed f = simp (eq-eqb _ _ (f .paired), le-leb _ _ (f .pool), le-leb _ _ (f .room), le-leb _ _ (f .some-code), le-leb _ _ (f .short-code), lt-ltb _ _ (f .in-code), le-leb _ _ (f .deep))
 
   -- 1
-  pub unpaired : (length (l .kinds) ≡ length (l .words) → ⊥) → frameAsked l s slots ≡ refused 1
-  unfolding frameAsked _else_ _>>_
+  pub unpaired : (length (l .kinds) ≡ length (l .words) → ⊥) → frameCheck l s slots ≡ refused 1
+  unfolding frameCheck _else_ _>>_
   unpaired h = simp (ne-eqb _ _ h)
 
   module _ (paired : length (l .kinds) ≡ length (l .words)) where
-    pub long-pool : 65536 < length (l .kinds) → frameAsked l s slots ≡ refused 1
-    unfolding frameAsked _else_ _>>_
+    pub long-pool : 65536 < length (l .kinds) → frameCheck l s slots ≡ refused 1
+    unfolding frameCheck _else_ _>>_
     long-pool h = simp (eq-eqb _ _ paired, lt-leb _ _ h)
 
     module _ (pool : length (l .kinds) ≤ 65536) where
-      pub no-room : length slots < s .«max_locals» + s .«max_stack» → frameAsked l s slots ≡ refused 1
-      unfolding frameAsked _else_ _>>_
+      pub no-room : length slots < s .«max_locals» + s .«max_stack» → frameCheck l s slots ≡ refused 1
+      unfolding frameCheck _else_ _>>_
       no-room h = simp (eq-eqb _ _ paired, le-leb _ _ pool, lt-leb _ _ h)
 
       -- 2
       module _ (room : s .«max_locals» + s .«max_stack» ≤ length slots) where
-        pub no-code : length (l .code) < 1 → frameAsked l s slots ≡ refused 2
-        unfolding frameAsked _else_ _>>_
+        pub no-code : length (l .code) < 1 → frameCheck l s slots ≡ refused 2
+        unfolding frameCheck _else_ _>>_
         no-code h = simp (eq-eqb _ _ paired, le-leb _ _ pool, le-leb _ _ room, lt-leb _ _ h)
 
         module _ (some-code : 1 ≤ length (l .code)) where
-          pub long-code : 65535 < length (l .code) → frameAsked l s slots ≡ refused 2
-          unfolding frameAsked _else_ _>>_
+          pub long-code : 65535 < length (l .code) → frameCheck l s slots ≡ refused 2
+          unfolding frameCheck _else_ _>>_
           long-code h = simp (eq-eqb _ _ paired, le-leb _ _ pool, le-leb _ _ room, le-leb _ _ some-code, lt-leb _ _ h)
 
           module _ (short-code : length (l .code) ≤ 65535) where
-            pub outside : length (l .code) ≤ s .pc → frameAsked l s slots ≡ refused 2
-            unfolding frameAsked _else_ _>>_
+            pub outside : length (l .code) ≤ s .pc → frameCheck l s slots ≡ refused 2
+            unfolding frameCheck _else_ _>>_
             outside h = simp (eq-eqb _ _ paired, le-leb _ _ pool, le-leb _ _ room, le-leb _ _ some-code, le-leb _ _ short-code, le-ltb _ _ h)
 
             -- 3
-            pub too-deep : s .pc < length (l .code) → s .«max_stack» < s .depth → frameAsked l s slots ≡ refused 3
-            unfolding frameAsked _else_ _>>_
+            pub too-deep : s .pc < length (l .code) → s .«max_stack» < s .depth → frameCheck l s slots ≡ refused 3
+            unfolding frameCheck _else_ _>>_
             too-deep i h = simp (eq-eqb _ _ paired, le-leb _ _ pool, le-leb _ _ room, le-leb _ _ some-code, le-leb _ _ short-code, lt-ltb _ _ i, lt-leb _ _ h)
 
 -- ---- questions 4 and 5
@@ -107,108 +107,108 @@ module _ (code : List ℕ) (pc : ℕ) where
   operands-missing r n o h = simp (lt-leb _ _ h)
 
   -- WIDE
-  pub wide-cut : length code ≤ pc + 1 → wideAsked code pc ≡ refused 5
-  unfolding wideAsked _else_ _>>_
+  pub wide-cut : length code ≤ pc + 1 → wideCheck code pc ≡ refused 5
+  unfolding wideCheck _else_ _>>_
   wide-cut h = simp (le-ltb _ _ h)
 
   module _ (there : pc + 1 < length code) where
-    pub wide-not-allowed : widens (wideOpcode code pc) ≡ false → wideAsked code pc ≡ refused 4
-    unfolding wideAsked _else_ _>>_
+    pub wide-not-allowed : widens (wideOpcode code pc) ≡ false → wideCheck code pc ≡ refused 4
+    unfolding wideCheck _else_ _>>_
     wide-not-allowed h = simp (lt-ltb _ _ there, h)
 
     module _ (allowed : widens (wideOpcode code pc) ≡ true) (r : Row) (row : rowOf (wideOpcode code pc) ≡ some r) where
-      pub wide-iinc : wideOpcode code pc ≡ 132 → wideAsked code pc ≡ sized code pc r 6 (operands (u16 code (pc + 2)) (s16 code (pc + 4)) [])
-      unfolding wideAsked _else_ _>>_ _>>=_
+      pub wide-iinc : wideOpcode code pc ≡ 132 → wideCheck code pc ≡ sized code pc r 6 (operands (u16 code (pc + 2)) (s16 code (pc + 4)) [])
+      unfolding wideCheck _else_ _>>_ _>>=_
       wide-iinc h = rw (lt-ltb (pc + 1) (length code) there, allowed, row, eq-eqb (wideOpcode code pc) 132 h)
 
-      pub wide-local : (wideOpcode code pc ≡ 132 → ⊥) → wideAsked code pc ≡ sized code pc r 4 (operands (u16 code (pc + 2)) (pos 0) [])
-      unfolding wideAsked _else_ _>>_ _>>=_
+      pub wide-local : (wideOpcode code pc ≡ 132 → ⊥) → wideCheck code pc ≡ sized code pc r 4 (operands (u16 code (pc + 2)) (pos 0) [])
+      unfolding wideCheck _else_ _>>_ _>>=_
       wide-local h = rw (lt-ltb (pc + 1) (length code) there, allowed, row, ne-eqb (wideOpcode code pc) 132 h)
 
   -- TABLESWITCH
   module _ (r : Row) where
-    pub table-cut : length code < aligned pc + 12 → tableAsked code pc r ≡ refused 5
-    unfolding tableAsked _else_ _>>_
+    pub table-cut : length code < aligned pc + 12 → tableCheck code pc r ≡ refused 5
+    unfolding tableCheck _else_ _>>_
     table-cut h = simp (lt-leb _ _ h)
 
     module _ (fields : aligned pc + 12 ≤ length code) where
-      pub table-disordered : (lowKey code pc ≤ᶻ highKey code pc) ≡ false → tableAsked code pc r ≡ refused 6
-      unfolding tableAsked _else_ _>>_
+      pub table-disordered : (lowKey code pc ≤ᶻ highKey code pc) ≡ false → tableCheck code pc r ≡ refused 6
+      unfolding tableCheck _else_ _>>_
       table-disordered h = simp (le-leb _ _ fields, h)
 
       module _ (ordered : (lowKey code pc ≤ᶻ highKey code pc) ≡ true) where
-        pub table-missing : length code < tableEnd code pc → tableAsked code pc r ≡ refused 5
-        unfolding tableAsked _else_ _>>_
+        pub table-missing : length code < tableEnd code pc → tableCheck code pc r ≡ refused 5
+        unfolding tableCheck _else_ _>>_
         table-missing h = simp (le-leb _ _ fields, ordered, lt-leb _ _ h)
 
-        pub table-there : tableEnd code pc ≤ length code → tableAsked code pc r ≡ passed (instruction r (tableEnd code pc - pc) (tableOperand code pc))
-        unfolding tableAsked _else_ _>>_
+        pub table-there : tableEnd code pc ≤ length code → tableCheck code pc r ≡ passed (instruction r (tableEnd code pc - pc) (tableOperand code pc))
+        unfolding tableCheck _else_ _>>_
         table-there h = simp (le-leb _ _ fields, ordered, le-leb _ _ h)
 
     -- LOOKUPSWITCH
-    pub lookup-cut : length code < aligned pc + 8 → lookupAsked code pc r ≡ refused 5
-    unfolding lookupAsked _else_ _>>_
+    pub lookup-cut : length code < aligned pc + 8 → lookupCheck code pc r ≡ refused 5
+    unfolding lookupCheck _else_ _>>_
     lookup-cut h = simp (lt-leb _ _ h)
 
     module _ (fields : aligned pc + 8 ≤ length code) where
-      pub lookup-negative : (pos 0 ≤ᶻ pairCount code pc) ≡ false → lookupAsked code pc r ≡ refused 6
-      unfolding lookupAsked _else_ _>>_
+      pub lookup-negative : (pos 0 ≤ᶻ pairCount code pc) ≡ false → lookupCheck code pc r ≡ refused 6
+      unfolding lookupCheck _else_ _>>_
       lookup-negative h = simp (le-leb _ _ fields, h)
 
       module _ (counted : (pos 0 ≤ᶻ pairCount code pc) ≡ true) where
-        pub lookup-missing : length code < pairsEnd code pc → lookupAsked code pc r ≡ refused 5
-        unfolding lookupAsked _else_ _>>_
+        pub lookup-missing : length code < pairsEnd code pc → lookupCheck code pc r ≡ refused 5
+        unfolding lookupCheck _else_ _>>_
         lookup-missing h = simp (le-leb _ _ fields, counted, lt-leb _ _ h)
 
         module _ (whole : pairsEnd code pc ≤ length code) where
-          pub lookup-unsorted : rising (keyPairs code pc) ≡ false → lookupAsked code pc r ≡ refused 6
-          unfolding lookupAsked _else_ _>>_
+          pub lookup-unsorted : rising (keyPairs code pc) ≡ false → lookupCheck code pc r ≡ refused 6
+          unfolding lookupCheck _else_ _>>_
           lookup-unsorted h = simp (le-leb _ _ fields, counted, le-leb _ _ whole, h)
 
-          pub lookup-there : rising (keyPairs code pc) ≡ true → lookupAsked code pc r ≡ passed (instruction r (pairsEnd code pc - pc) (pairsOperand code pc))
-          unfolding lookupAsked _else_ _>>_
+          pub lookup-there : rising (keyPairs code pc) ≡ true → lookupCheck code pc r ≡ passed (instruction r (pairsEnd code pc - pc) (pairsOperand code pc))
+          unfolding lookupCheck _else_ _>>_
           lookup-there h = simp (le-leb _ _ fields, counted, le-leb _ _ whole, h)
 
 -- ---- questions 6 to 9
 
-pub record Needed (l : Lent) (s : State) (i : Instruction) : Type 0 where
+pub record Needed (l : Method) (s : State) (i : Instruction) : Type 0 where
   pub pops : popped i ≤ s .depth
   pub fits : s .depth - popped i + pushed i ≤ s .«max_stack»
   pub local-there : localsBelow (s .«max_locals») (i .operand .index) (i .rule .locals) ≡ true
   pub constant-there : constantThere (l .kinds) (i .operand .index) (i .rule .constants) ≡ true
 
-module _ (l : Lent) (s : State) (i : Instruction) where
-  pub needed : needsAsked l s i ≡ passed tt → Needed l s i
-  unfolding needsAsked
+module _ (l : Method) (s : State) (i : Instruction) where
+  pub needed : needsCheck l s i ≡ passed tt → Needed l s i
+  unfolding needsCheck
   needed e =
       let a = first-passed _ 7 _ e in
       let b = first-passed _ 8 _ (a .1) in
       let c = first-passed _ 9 _ (b .1) in
       record { pops = leb-true _ _ (a .0); fits = leb-true _ _ (b .0); local-there = c .0; constant-there = last-passed _ 10 (c .1) }
 
-  pub needs-passed : Needed l s i → needsAsked l s i ≡ passed tt
-  unfolding needsAsked _else_ _>>_
+  pub needs-passed : Needed l s i → needsCheck l s i ≡ passed tt
+  unfolding needsCheck _else_ _>>_
   needs-passed n = simp (le-leb _ _ (n .pops), le-leb _ _ (n .fits), n .local-there, n .constant-there)
 
   -- 6
-  pub pops-missing : s .depth < popped i → needsAsked l s i ≡ refused 7
-  unfolding needsAsked _else_ _>>_
+  pub pops-missing : s .depth < popped i → needsCheck l s i ≡ refused 7
+  unfolding needsCheck _else_ _>>_
   pops-missing h = simp (lt-leb _ _ h)
 
   module _ (pops : popped i ≤ s .depth) where
     -- 7
-    pub overflows : s .«max_stack» < s .depth - popped i + pushed i → needsAsked l s i ≡ refused 8
-    unfolding needsAsked _else_ _>>_
+    pub overflows : s .«max_stack» < s .depth - popped i + pushed i → needsCheck l s i ≡ refused 8
+    unfolding needsCheck _else_ _>>_
     overflows h = simp (le-leb _ _ pops, lt-leb _ _ h)
 
     module _ (fits : s .depth - popped i + pushed i ≤ s .«max_stack») where
       -- 8
-      pub local-missing : localsBelow (s .«max_locals») (i .operand .index) (i .rule .locals) ≡ false → needsAsked l s i ≡ refused 9
-      unfolding needsAsked _else_ _>>_
+      pub local-missing : localsBelow (s .«max_locals») (i .operand .index) (i .rule .locals) ≡ false → needsCheck l s i ≡ refused 9
+      unfolding needsCheck _else_ _>>_
       local-missing h = simp (le-leb _ _ pops, le-leb _ _ fits, h)
 
       -- 9
       pub constant-missing : localsBelow (s .«max_locals») (i .operand .index) (i .rule .locals) ≡ true
-          → constantThere (l .kinds) (i .operand .index) (i .rule .constants) ≡ false → needsAsked l s i ≡ refused 10
-      unfolding needsAsked _else_ _>>_
+          → constantThere (l .kinds) (i .operand .index) (i .rule .constants) ≡ false → needsCheck l s i ≡ refused 10
+      unfolding needsCheck _else_ _>>_
       constant-missing k h = simp (le-leb _ _ pops, le-leb _ _ fits, k, h)

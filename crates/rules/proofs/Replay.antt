@@ -11,8 +11,8 @@ use lib.ListN.{length, take, drop, getD}
 use lib.Seq.{paste, paste-zero, length-paste, take-paste, drop-paste, drop-drop, drop-cons, drop-length, take-append-add, take-all}
 use Rattle.rules.specs.declared.State.{State}
 use Rattle.rules.specs.declared.Pressed.{Pressed}
-use Rattle.rules.specs.Asked.{_else_}
-use Rattle.rules.specs.Questions.{Lent}
+use Rattle.rules.specs.Check.{_else_}
+use Rattle.rules.specs.Questions.{Method}
 use Rattle.rules.specs.History.{Out}
 use Rattle.rules.specs.Walk.{forward, pressOf, Walked, walkOf, Whole, stage0}
 use Rattle.rules.specs.Presses.{pressOfByte, pressesOfBytes, answerWords, answersWords, Replayed, replayed, replayOf, FromAnyLoad}
@@ -25,7 +25,7 @@ forward-byte zero h = absurd (h refl)
 forward-byte (suc n) h = refl
 
 -- the presses of the bytes made, their answers written from an index on
-unfoldable pub replayFrom : Lent → List ℕ → ℕ → State → List ℕ → List ℕ → List ℕ → Replayed
+unfoldable pub replayFrom : Method → List ℕ → ℕ → State → List ℕ → List ℕ → List ℕ → Replayed
 replayFrom l [] at s slots log answers = record { number = 0; state = s; slots = slots; log = log; answers = answers }
 replayFrom l (b ∷ bs) at s slots log answers =
     let o = pressOf l (pressOfByte b) s slots log in
@@ -40,7 +40,7 @@ paste-then d at x y n h =
     ∙ drop-drop n (at + length x) d ∙ ap (λ (k : ℕ). drop k d) (add-assoc at (length x) n) in
     rw (take-paste d at x (length x) h₁ (omega arith), past, take-all (length x) x (omega arith), take-append-add x y n) (ap (λ (z : List ℕ). z ++ drop (at + (length x + n)) d) (append-assoc (take at d) x (take n y)))
 
-module _ (l : Lent) where
+module _ (l : Method) where
   -- what it writes from an index on is the answers of the walk
   replay-walks : (bs : List ℕ) (at : ℕ) (s : State) (slots log answers : List ℕ) → at + 3 * length bs ≤ length answers → (w : Walked) → walkOf l (pressesOfBytes bs) s slots log ≡ w
       → replayFrom l bs at s slots log answers ≡ record { number = 0; state = w .state; slots = w .slots; log = w .log; answers = paste answers at (answersWords (w .answers)) (3 * length bs) }
@@ -59,17 +59,17 @@ module _ (l : Lent) where
 
 -- ---- the loop over the bytes: i presses are made, and what is left to make gives what the whole list gives
 
-pub record Replaying (l : Lent) (bytes : List ℕ) (s₀ : State) (slots₀ log₀ answers₀ : List ℕ) (i : ℕ) (s : State) (slots log answers : List ℕ) : Type 0 where
+pub record Replaying (l : Method) (bytes : List ℕ) (s₀ : State) (slots₀ log₀ answers₀ : List ℕ) (i : ℕ) (s : State) (slots log answers : List ℕ) : Type 0 where
   pub upto : i ≤ length bytes
   pub long-slots : length slots ≡ length slots₀
   pub long-log : length log ≡ length log₀
   pub long-answers : length answers ≡ length answers₀
   pub rest : replayFrom l (drop i bytes) (3 * i) s slots log answers ≡ replayFrom l bytes 0 s₀ slots₀ log₀ answers₀
 
-pub begins : (l : Lent) (bytes : List ℕ) (s : State) (slots log answers : List ℕ) → Replaying l bytes s slots log answers 0 s slots log answers
+pub begins : (l : Method) (bytes : List ℕ) (s : State) (slots log answers : List ℕ) → Replaying l bytes s slots log answers 0 s slots log answers
 begins l bytes s slots log answers = record { upto = omega arith; long-slots = refl; long-log = refl; long-answers = refl; rest = refl }
 
-module _ (l : Lent) (bytes : List ℕ) (s₀ : State) (slots₀ log₀ answers₀ : List ℕ) (i : ℕ) (s : State) (slots log answers : List ℕ) (g : Replaying l bytes s₀ slots₀ log₀ answers₀ i s slots log answers) where
+module _ (l : Method) (bytes : List ℕ) (s₀ : State) (slots₀ log₀ answers₀ : List ℕ) (i : ℕ) (s : State) (slots log answers : List ℕ) (g : Replaying l bytes s₀ slots₀ log₀ answers₀ i s slots log answers) where
   pub one-more : i < length bytes → 3 * i + 3 ≤ length answers → (o : Out) → o ≡ pressOf l (pressOfByte (getD bytes i 0)) s slots log → length (o .slots) ≡ length slots → length (o .log) ≡ length log
       → Replaying l bytes s₀ slots₀ log₀ answers₀ (i + 1) (o .state) (o .slots) (o .log) (paste answers (3 * i) (answerWords (o .answer)) 3)
   unfolding replayFrom
@@ -91,7 +91,7 @@ module _ (l : Lent) (bytes : List ℕ) (s₀ : State) (slots₀ log₀ answers�
 
 -- ---- the whole list
 
-module _ (l : Lent) (bytes : List ℕ) (s : State) (slots log answers : List ℕ) where
+module _ (l : Method) (bytes : List ℕ) (s : State) (slots log answers : List ℕ) where
   pub replay-made : 3 * length bytes ≤ length answers → replayOf l bytes s slots log answers ≡ replayed answers (length bytes) (walkOf l (pressesOfBytes bytes) s slots log)
   unfolding replayOf _else_
   replay-made h = rw (le-leb (3 * length bytes) (length answers) h)

@@ -12,7 +12,7 @@ use Rattle.values.specs.Kinds.{Kind, places, placesOf}
 use Rattle.rules.specs.Forms.{Row, Rule, Operand, Result, pushes, stores, divides, branches, returns, Source, stack, local, pool, Format, alone, implied, byte, short, index, index2, index-const, branch, branch4, table, pairs, widened}
 use Rattle.rules.specs.Instructions.{instructions, rowIn, rowOf}
 use Rattle.rules.specs.Questions.{localsBelow}
-use Rattle.rules.proofs.Asked.{and-true}
+use Rattle.rules.proofs.Check.{and-true}
 
 -- ---- what is computed of every row
 

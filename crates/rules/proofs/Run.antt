@@ -10,18 +10,18 @@ use Rattle.rules.specs.declared.Decision.{Decision}
 use Rattle.rules.specs.declared.Decision.the-variants.{Ordinary, Return, Throw, Refused}
 use Rattle.rules.specs.declared.End.{End}
 use Rattle.rules.specs.declared.End.the-variants as End
-use Rattle.rules.specs.Asked.{Asked, passed, refused, _>>_}
+use Rattle.rules.specs.Check.{Check, passed, refused, _>>_}
 use Rattle.rules.specs.Forms.{Result, pushes, stores, divides, branches, returns, Source, stack, local, pool}
 use Rattle.rules.specs.Fetch.{Instruction, fetched}
-use Rattle.rules.specs.Questions.{Lent, frameAsked, needsAsked}
+use Rattle.rules.specs.Questions.{Method, frameCheck, needsCheck}
 use Rattle.rules.specs.Step.{frame, wordsAt, outcome, decision, decideOf, moved, written}
-use Rattle.rules.proofs.Asked.{bind-same}
+use Rattle.rules.proofs.Check.{bind-same}
 use Rattle.rules.proofs.Step.{result, run-ordinary, run-return, run-throw, run-refused}
-use Rattle.rules.specs.Run.{Ran, ends, runFrom, runAsked, runOf, uncounted, stepsOf, endBy, Ended, stopped, ended, Told, untaken, taken}
+use Rattle.rules.specs.Run.{Ran, ends, runFrom, runCheck, runOf, uncounted, stepsOf, endBy, Ended, stopped, ended, Told, untaken, taken}
 
 -- ---- no step looks at the count
 
-module _ (l : Lent) (s : State) (slots : List ℕ) where
+module _ (l : Method) (s : State) (slots : List ℕ) where
   outcome-same : (i : Instruction) (r : Result) → outcome l (uncounted s) i r ≡ outcome l s i r
   outcome-same i (pushes ws) = refl
   outcome-same i (stores ws) = refl
@@ -38,25 +38,25 @@ module _ (l : Lent) (s : State) (slots : List ℕ) where
   result-same i = ap (i .rule .does (i .operand)) (words-same i (i .rule .reads))
 
   pub count-unseen : decideOf l (uncounted s) slots ≡ decideOf l s slots
-  unfolding decideOf frameAsked needsAsked
-  count-unseen = ap (λ (x : Asked Decision). decision (frameAsked l s slots >> x))
-      (bind-same (fetched (l .code) (s .pc)) _ _ (λ i. ap (λ (x : Asked Decision). needsAsked l s i >> x) (ap (outcome l (uncounted s) i) (result-same i) ∙ outcome-same i (result l s slots i))))
+  unfolding decideOf frameCheck needsCheck
+  count-unseen = ap (λ (x : Check Decision). decision (frameCheck l s slots >> x))
+      (bind-same (fetched (l .code) (s .pc)) _ _ (λ i. ap (λ (x : Check Decision). needsCheck l s i >> x) (ap (outcome l (uncounted s) i) (result-same i) ∙ outcome-same i (result l s slots i))))
 
 -- ---- the steps of a run
 
 -- how k steps of a budget b ended
-data Ending (l : Lent) (b k : ℕ) (r : Ran) : Type 0 where
+data Ending (l : Method) (b k : ℕ) (r : Ran) : Type 0 where
   at-budget : k ≡ b → r .end ≡ End.Stopped → Ending l b k r
   before : k < b → endBy (decideOf l (r .state) (r .slots)) ≡ some (r .end) → Ending l b k r
 
 -- a run of k steps from s, n having been taken already
-record Leads (l : Lent) (b n : ℕ) (s : State) (slots : List ℕ) (r : Ran) : Type 0 where
+record Leads (l : Method) (b n : ℕ) (s : State) (slots : List ℕ) (r : Ran) : Type 0 where
   taken : ℕ
   counted : r .steps ≡ n + taken
   led : stepsOf l taken (uncounted s) slots ≡ some (r .state, r .slots)
   ending : Ending l b taken r
 
-module _ (l : Lent) where
+module _ (l : Method) where
   step-first : (n : ℕ) (s : State) (slots : List ℕ) (u : Update) → decideOf l s slots ≡ Ordinary u
       → stepsOf l (suc n) (uncounted s) slots ≡ stepsOf l n (moved s (u .pc) (u .depth) 0) (written u slots)
   unfolding stepsOf
@@ -93,15 +93,15 @@ module _ (l : Lent) where
       go (Refused k) e h = rw (run-refused l b n s slots k e) (at-once b n s slots (End.Refused k) (ap endBy e))
 
 -- THE LAW: what a run says of itself
-pub run-told : (l : Lent) (budget : ℕ) (s : State) (slots : List ℕ) → Told l budget s slots (runOf l budget s slots)
+pub run-told : (l : Method) (budget : ℕ) (s : State) (slots : List ℕ) → Told l budget s slots (runOf l budget s slots)
 unfolding runOf
-run-told l budget s slots = go (frameAsked l s slots) refl
+run-told l budget s slots = go (frameCheck l s slots) refl
   where
     ended-as : (r : Ran) (k : ℕ) → r .steps ≡ k → Ending l budget k r → Ended l budget r
     ended-as r k e (at-budget p q) = stopped (e ∙ p) q
     ended-as r k e (before p q) = ended (rw e p) q
 
-    go : (x : Asked (Unit {0})) → frameAsked l s slots ≡ x → Told l budget s slots (runAsked l budget s slots x)
+    go : (x : Check (Unit {0})) → frameCheck l s slots ≡ x → Told l budget s slots (runCheck l budget s slots x)
     go (passed u) e =
         let h = run-leads l budget 0 s slots in
         let r = runFrom l budget 0 s slots in

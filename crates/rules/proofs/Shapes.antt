@@ -8,10 +8,10 @@ use mathlib.Core.Option.{Option, none, some}
 use lib.Dec.{leb}
 use lib.ListN.{replicate}
 use Rattle.values.specs.Kinds.{Kind, int, long, float, double, reference, any}
-use Rattle.rules.specs.Asked.{Asked, passed, refused, _else_, _>>_, _>>=_}
+use Rattle.rules.specs.Check.{Check, passed, refused, _else_, _>>_, _>>=_}
 use Rattle.rules.specs.Forms.{Row}
 use Rattle.rules.specs.Instructions.{rowOf}
-use Rattle.rules.specs.Fetch.{Instruction, fetched, wideAsked, tableAsked, lookupAsked, pairsFrom}
+use Rattle.rules.specs.Fetch.{Instruction, fetched, wideCheck, tableCheck, lookupCheck, pairsFrom}
 use Rattle.values.specs.Integers.{signed}
 use Rattle.rules.proofs.Rows.{upTo}
 
@@ -153,10 +153,10 @@ lengthIn [] n = 0
 lengthIn (l ∷ ls) n = cond (isIn (l .opcodes) n) (l .size) (lengthIn ls n)
 
 -- 0 where question 4 or 5 refuses it, as it does an opcode outside the core, and a WIDE before a NOP
-abbrev sizeOf : Asked Instruction → ℕ
+abbrev sizeOf : Check Instruction → ℕ
 sizeOf (passed i) = i .size
 sizeOf (refused n) = 0
 
 lengths-all : map (lengthIn lengths) (upTo 256) ≡ map (λ n. sizeOf (fetched (n ∷ replicate 31 0) 0)) (upTo 256)
-unfolding rowOf fetched wideAsked tableAsked lookupAsked pairsFrom _else_ _>>_ _>>=_ signed
+unfolding rowOf fetched wideCheck tableCheck lookupCheck pairsFrom _else_ _>>_ _>>=_ signed
 lengths-all = refl

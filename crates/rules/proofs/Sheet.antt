@@ -11,91 +11,91 @@ use Rattle.rules.specs.declared.Mark.{Mark}
 use Rattle.rules.specs.declared.Mark.the-variants.{LM, CD, KI, AR}
 use Rattle.rules.specs.declared.Reading.{Reading}
 use Rattle.rules.specs.declared.Load.the-variants as Load
-use Rattle.rules.specs.Asked.{Asked, passed, refused, _else_, _>>=_, _>>_}
+use Rattle.rules.specs.Check.{Check, passed, refused, _else_, _>>=_, _>>_}
 use Rattle.rules.specs.Fetch.{u8, u16, u32}
-use Rattle.rules.specs.Sheet.{bodyLength, bodyAt, recordEnd, knownMark, follows, rightLength, unread, withConstant, withArguments, poolIndex, poolTag, tagSuits, lastIndex, contentsAsked, recordAsked, endAsked, readFrom, sheetAsked, Pool, withWords, withValue, poolFrom, loadedPool, loadedSlots, loadedState, memoryAsked, loadOf}
-use Rattle.rules.proofs.Asked.{Holds, asked, bound, held, either, bind-same}
+use Rattle.rules.specs.Sheet.{bodyLength, bodyAt, recordEnd, knownMark, follows, rightLength, unread, withConstant, withArguments, poolIndex, poolTag, tagSuits, lastIndex, contentsCheck, recordCheck, endCheck, readFrom, sheetCheck, Pool, withWords, withValue, poolFrom, loadedPool, loadedSlots, loadedState, memoryCheck, loadOf}
+use Rattle.rules.proofs.Check.{Holds, asked, bound, held, either, bind-same}
 
 -- ---- a record, question by question
 
 module _ (sheet : List ℕ) (at : ℕ) (p : Reading) where
   -- 21
-  pub head-cut : length sheet < bodyAt at → recordAsked sheet at p ≡ refused 21
-  unfolding recordAsked _else_ _>>_
+  pub head-cut : length sheet < bodyAt at → recordCheck sheet at p ≡ refused 21
+  unfolding recordCheck _else_ _>>_
   head-cut h = simp (lt-leb _ _ h)
 
-  pub body-cut : bodyAt at ≤ length sheet → length sheet < recordEnd sheet at → recordAsked sheet at p ≡ refused 21
-  unfolding recordAsked _else_ _>>_
+  pub body-cut : bodyAt at ≤ length sheet → length sheet < recordEnd sheet at → recordCheck sheet at p ≡ refused 21
+  unfolding recordCheck _else_ _>>_
   body-cut h k = simp (le-leb _ _ h, lt-leb _ _ k)
 
   module _ (head : bodyAt at ≤ length sheet) (there : recordEnd sheet at ≤ length sheet) where
     -- 22
-    pub unknown : knownMark (u16 sheet at) ≡ refused 22 → recordAsked sheet at p ≡ refused 22
-    unfolding recordAsked _else_ _>>_ _>>=_
+    pub unknown : knownMark (u16 sheet at) ≡ refused 22 → recordCheck sheet at p ≡ refused 22
+    unfolding recordCheck _else_ _>>_ _>>=_
     unknown e = simp (le-leb _ _ head, le-leb _ _ there, e)
 
     module _ (m : Mark) (known : knownMark (u16 sheet at) ≡ passed m) where
       -- 23
-      pub disordered : follows m (p .last) ≡ false → recordAsked sheet at p ≡ refused 23
-      unfolding recordAsked _else_ _>>_ _>>=_
+      pub disordered : follows m (p .last) ≡ false → recordCheck sheet at p ≡ refused 23
+      unfolding recordCheck _else_ _>>_ _>>=_
       disordered h = simp (le-leb _ _ head, le-leb _ _ there, known, h)
 
       module _ (ordered : follows m (p .last) ≡ true) where
         -- 24
-        pub wrong-length : rightLength m (bodyLength sheet at) ≡ false → recordAsked sheet at p ≡ refused 24
-        unfolding recordAsked _else_ _>>_ _>>=_
+        pub wrong-length : rightLength m (bodyLength sheet at) ≡ false → recordCheck sheet at p ≡ refused 24
+        unfolding recordCheck _else_ _>>_ _>>=_
         wrong-length h = simp (le-leb _ _ head, le-leb _ _ there, known, ordered, h)
 
-        pub to-contents : rightLength m (bodyLength sheet at) ≡ true → recordAsked sheet at p ≡ contentsAsked sheet at p m
-        unfolding recordAsked _else_ _>>_ _>>=_
+        pub to-contents : rightLength m (bodyLength sheet at) ≡ true → recordCheck sheet at p ≡ contentsCheck sheet at p m
+        unfolding recordCheck _else_ _>>_ _>>=_
         to-contents h = simp (le-leb _ _ head, le-leb _ _ there, known, ordered, h)
 
   -- 25
-  pub tag-unfit : tagSuits (poolTag sheet at) (bodyLength sheet at) ≡ false → contentsAsked sheet at p KI ≡ refused 25
-  unfolding contentsAsked _else_ _>>_
+  pub tag-unfit : tagSuits (poolTag sheet at) (bodyLength sheet at) ≡ false → contentsCheck sheet at p KI ≡ refused 25
+  unfolding contentsCheck _else_ _>>_
   tag-unfit h = simp h
 
   module _ (suits : tagSuits (poolTag sheet at) (bodyLength sheet at) ≡ true) where
-    pub index-used : poolIndex sheet at ≤ p .used → contentsAsked sheet at p KI ≡ refused 25
-    unfolding contentsAsked _else_ _>>_
+    pub index-used : poolIndex sheet at ≤ p .used → contentsCheck sheet at p KI ≡ refused 25
+    unfolding contentsCheck _else_ _>>_
     index-used h = simp (suits, le-ltb _ _ h)
 
     module _ (above : p .used < poolIndex sheet at) where
-      pub index-past : 65535 < lastIndex sheet at → contentsAsked sheet at p KI ≡ refused 25
-      unfolding contentsAsked _else_ _>>_
+      pub index-past : 65535 < lastIndex sheet at → contentsCheck sheet at p KI ≡ refused 25
+      unfolding contentsCheck _else_ _>>_
       index-past h = simp (suits, lt-ltb _ _ above, lt-leb _ _ h)
 
-      pub constant-read : lastIndex sheet at ≤ 65535 → contentsAsked sheet at p KI ≡ passed (withConstant p (lastIndex sheet at))
-      unfolding contentsAsked _else_ _>>_
+      pub constant-read : lastIndex sheet at ≤ 65535 → contentsCheck sheet at p KI ≡ passed (withConstant p (lastIndex sheet at))
+      unfolding contentsCheck _else_ _>>_
       constant-read h = simp (suits, lt-ltb _ _ above, le-leb _ _ h)
 
   -- 27
-  pub too-many : p .«max_locals» < bodyLength sheet at / 4 → contentsAsked sheet at p AR ≡ refused 27
-  unfolding contentsAsked _else_ _>>_
+  pub too-many : p .«max_locals» < bodyLength sheet at / 4 → contentsCheck sheet at p AR ≡ refused 27
+  unfolding contentsCheck _else_ _>>_
   too-many h = simp (lt-leb _ _ h)
 
-  pub arguments-read : bodyLength sheet at / 4 ≤ p .«max_locals» → contentsAsked sheet at p AR ≡ passed (withArguments p (bodyAt at) (bodyLength sheet at / 4))
-  unfolding contentsAsked _else_ _>>_
+  pub arguments-read : bodyLength sheet at / 4 ≤ p .«max_locals» → contentsCheck sheet at p AR ≡ passed (withArguments p (bodyAt at) (bodyLength sheet at / 4))
+  unfolding contentsCheck _else_ _>>_
   arguments-read h = simp (le-leb _ _ h)
 
 -- a record that is read ends in the sheet
 Ends : List ℕ → ℕ → Reading → Type 0
 Ends sheet at r = recordEnd sheet at ≤ length sheet
 
-always : (sheet : List ℕ) (at : ℕ) (x : Asked Reading) → recordEnd sheet at ≤ length sheet → Holds (Ends sheet at) x
+always : (sheet : List ℕ) (at : ℕ) (x : Check Reading) → recordEnd sheet at ≤ length sheet → Holds (Ends sheet at) x
 unfolding Holds Ends
 always sheet at (passed r) h = h
 always sheet at (refused n) h = tt
 
-pub record-there : (sheet : List ℕ) (at : ℕ) (p q : Reading) → recordAsked sheet at p ≡ passed q → recordEnd sheet at ≤ length sheet
-unfolding recordAsked Ends
+pub record-there : (sheet : List ℕ) (at : ℕ) (p q : Reading) → recordCheck sheet at p ≡ passed q → recordEnd sheet at ≤ length sheet
+unfolding recordCheck Ends
 record-there sheet at p q e =
-    held (Ends sheet at) (recordAsked sheet at p) q (asked (Ends sheet at) _ 21 _ (λ _. asked (Ends sheet at) _ 21 _ (λ h. always sheet at _ (leb-true _ _ h)))) e
+    held (Ends sheet at) (recordCheck sheet at p) q (asked (Ends sheet at) _ 21 _ (λ _. asked (Ends sheet at) _ 21 _ (λ h. always sheet at _ (leb-true _ _ h)))) e
 
 -- ---- record by record: as many turns as there are bytes left are enough
 
 module _ (sheet : List ℕ) where
-  pub read-end : (n at : ℕ) (p : Reading) → length sheet ≤ at → readFrom n sheet at p ≡ endAsked p
+  pub read-end : (n at : ℕ) (p : Reading) → length sheet ≤ at → readFrom n sheet at p ≡ endCheck p
   unfolding readFrom
   read-end zero at p h = refl
   read-end (suc n) at p h = rw (le-leb (length sheet) at h)
@@ -105,25 +105,25 @@ module _ (sheet : List ℕ) where
   read-enough zero n at p h k = sym (read-end n at p (omega arith))
   read-enough (suc m) zero at p h k = read-end (suc m) at p (omega arith)
   read-enough (suc m) (suc n) at p h k =
-      ap (λ (x : Asked Reading). cond (leb (length sheet) at) (endAsked p) x)
-      (bind-same (recordAsked sheet at p) _ _ (λ q. read-enough m n (recordEnd sheet at) q (omega arith) (omega arith)))
+      ap (λ (x : Check Reading). cond (leb (length sheet) at) (endCheck p) x)
+      (bind-same (recordCheck sheet at p) _ _ (λ q. read-enough m n (recordEnd sheet at) q (omega arith) (omega arith)))
 
   module _ (at : ℕ) (p : Reading) (more : at < length sheet) where
-    one-record : readFrom (length sheet - at) sheet at p ≡ (recordAsked sheet at p >>= λ q. readFrom (length sheet - recordEnd sheet at) sheet (recordEnd sheet at) q)
+    one-record : readFrom (length sheet - at) sheet at p ≡ (recordCheck sheet at p >>= λ q. readFrom (length sheet - recordEnd sheet at) sheet (recordEnd sheet at) q)
     unfolding readFrom
     one-record =
         let n = length sheet - at - 1 in
         let e : length sheet - at ≡ suc (length sheet - at - 1) = omega arith in
         ap (λ (k : ℕ). readFrom k sheet at p) e
-        ∙ ap (λ (t : Bool). cond t (endAsked p) (recordAsked sheet at p >>= λ q. readFrom n sheet (recordEnd sheet at) q)) (lt-leb (length sheet) at more)
-        ∙ bind-same (recordAsked sheet at p) _ _ (λ q. read-enough n (length sheet - recordEnd sheet at) (recordEnd sheet at) q (omega arith) (omega arith))
+        ∙ ap (λ (t : Bool). cond t (endCheck p) (recordCheck sheet at p >>= λ q. readFrom n sheet (recordEnd sheet at) q)) (lt-leb (length sheet) at more)
+        ∙ bind-same (recordCheck sheet at p) _ _ (λ q. read-enough n (length sheet - recordEnd sheet at) (recordEnd sheet at) q (omega arith) (omega arith))
 
-    pub next-record : (q : Reading) → recordAsked sheet at p ≡ passed q
+    pub next-record : (q : Reading) → recordCheck sheet at p ≡ passed q
         → readFrom (length sheet - at) sheet at p ≡ readFrom (length sheet - recordEnd sheet at) sheet (recordEnd sheet at) q
     unfolding _>>=_
     next-record q e = rw e at one-record
 
-    pub bad-record : (k : ℕ) → recordAsked sheet at p ≡ refused k → readFrom (length sheet - at) sheet at p ≡ refused k
+    pub bad-record : (k : ℕ) → recordCheck sheet at p ≡ refused k → readFrom (length sheet - at) sheet at p ≡ refused k
     unfolding _>>=_
     bad-record k e = rw e at one-record
 
@@ -188,8 +188,8 @@ module _ (sheet : List ℕ) where
   body-short at bytes = omega (arith, bytes (at + 2), bytes (at + 2 + 1))
 
   module _ (at : ℕ) (p : Reading) (h : Within sheet p) (there : recordEnd sheet at ≤ length sheet) where
-    contents-within : (m : Mark) → follows m (p .last) ≡ true → rightLength m (bodyLength sheet at) ≡ true → Holds W (contentsAsked sheet at p m)
-    unfolding Holds W contentsAsked
+    contents-within : (m : Mark) → follows m (p .last) ≡ true → rightLength m (bodyLength sheet at) ≡ true → Holds W (contentsCheck sheet at p m)
+    unfolding Holds W contentsCheck
     contents-within LM f r = record {
       code-there = λ k. absurd (omega arith);
       some-code = λ k. absurd (omega arith);
@@ -223,8 +223,8 @@ module _ (sheet : List ℕ) where
       few-arguments = λ k. leb-true _ _ few;
     })
 
-  record-within : (at : ℕ) (p : Reading) → Within sheet p → Holds W (recordAsked sheet at p)
-  unfolding recordAsked
+  record-within : (at : ℕ) (p : Reading) → Within sheet p → Holds W (recordCheck sheet at p)
+  unfolding recordCheck
   record-within at p h = asked W _ 21 _ (λ _. asked W _ 21 _ (λ there. bound W (knownMark (u16 sheet at)) _ (λ m e.
       asked W _ 23 _ (λ f. asked W _ 24 _ (λ r. contents-within at p h (leb-true (recordEnd sheet at) (length sheet) there) m f r)))))
 
@@ -232,7 +232,7 @@ module _ (sheet : List ℕ) where
   Whole : Reading → Type 0
   Whole p = (Within sheet p) × (p .last ≡ 4)
 
-  end-within : (p : Reading) → Within sheet p → Holds Whole (endAsked p)
+  end-within : (p : Reading) → Within sheet p → Holds Whole (endCheck p)
   unfolding Holds Whole
   end-within p h = asked Whole _ 23 _ (λ e. (h, eqb-true _ _ e))
 
@@ -240,11 +240,11 @@ module _ (sheet : List ℕ) where
   unfolding readFrom W
   read-within zero at p h = end-within p h
   read-within (suc n) at p h =
-      either Whole (leb (length sheet) at) _ _ (end-within p h) (bound Whole (recordAsked sheet at p) _ (λ q e. read-within n (recordEnd sheet at) q (held W (recordAsked sheet at p) q (record-within at p h) e)))
+      either Whole (leb (length sheet) at) _ _ (end-within p h) (bound Whole (recordCheck sheet at p) _ (λ q e. read-within n (recordEnd sheet at) q (held W (recordCheck sheet at p) q (record-within at p h) e)))
 
-  pub sheet-within : (p : Reading) → sheetAsked sheet ≡ passed p → (Within sheet p) × (p .last ≡ 4)
-  unfolding sheetAsked Whole
-  sheet-within p e = held Whole (sheetAsked sheet) p (read-within (length sheet) 0 unread nothing-read) e
+  pub sheet-within : (p : Reading) → sheetCheck sheet ≡ passed p → (Within sheet p) × (p .last ≡ 4)
+  unfolding sheetCheck Whole
+  sheet-within p e = held Whole (sheetCheck sheet) p (read-within (length sheet) 0 unread nothing-read) e
     where
       nothing-read : Within sheet unread
       nothing-read = record {
@@ -267,8 +267,8 @@ module _ (sheet : List ℕ) where
   After : ℕ → Reading → Type 0
   After at p = Placed (recordEnd sheet at) p
 
-  contents-placed : (at : ℕ) (p : Reading) → Placed at p → (m : Mark) → follows m (p .last) ≡ true → rightLength m (bodyLength sheet at) ≡ true → Holds (After at) (contentsAsked sheet at p m)
-  unfolding Holds After contentsAsked
+  contents-placed : (at : ℕ) (p : Reading) → Placed at p → (m : Mark) → follows m (p .last) ≡ true → rightLength m (bodyLength sheet at) ≡ true → Holds (After at) (contentsCheck sheet at p m)
+  unfolding Holds After contentsCheck
   contents-placed at p h LM f r = record {
     first = λ e. absurd (omega arith);
     second = λ e. omega (arith, h .first (eqb-true (p .last) 0 f), eqb-true (bodyLength sheet at) 4 r);
@@ -290,15 +290,15 @@ module _ (sheet : List ℕ) where
     code-at = λ k. h .code-at (after-code (p .last) f);
   })
 
-  record-placed : (at : ℕ) (p : Reading) → Placed at p → Holds (After at) (recordAsked sheet at p)
-  unfolding recordAsked
+  record-placed : (at : ℕ) (p : Reading) → Placed at p → Holds (After at) (recordCheck sheet at p)
+  unfolding recordCheck
   record-placed at p h = asked (After at) _ 21 _ (λ _. asked (After at) _ 21 _ (λ _. bound (After at) (knownMark (u16 sheet at)) _ (λ m e.
       asked (After at) _ 23 _ (λ f. asked (After at) _ 24 _ (λ r. contents-placed at p h m f r)))))
 
   At12 : Reading → Type 0
   At12 p = p .code ≡ 12
 
-  end-placed : (at : ℕ) (p : Reading) → Placed at p → Holds At12 (endAsked p)
+  end-placed : (at : ℕ) (p : Reading) → Placed at p → Holds At12 (endCheck p)
   unfolding Holds At12
   end-placed at p h = asked At12 _ 23 _ (λ e. h .code-at (omega (arith, eqb-true (p .last) 4 e)))
 
@@ -306,25 +306,25 @@ module _ (sheet : List ℕ) where
   unfolding readFrom After
   read-placed zero at p h = end-placed at p h
   read-placed (suc n) at p h =
-      either At12 (leb (length sheet) at) _ _ (end-placed at p h) (bound At12 (recordAsked sheet at p) _ (λ q e. read-placed n (recordEnd sheet at) q (held (After at) (recordAsked sheet at p) q (record-placed at p h) e)))
+      either At12 (leb (length sheet) at) _ _ (end-placed at p h) (bound At12 (recordCheck sheet at p) _ (λ q e. read-placed n (recordEnd sheet at) q (held (After at) (recordCheck sheet at p) q (record-placed at p h) e)))
 
-  pub code-at-12 : (p : Reading) → sheetAsked sheet ≡ passed p → p .code ≡ 12
-  unfolding sheetAsked At12
-  code-at-12 p e = held At12 (sheetAsked sheet) p (read-placed (length sheet) 0 unread (record { first = λ e. refl; second = λ e. absurd (omega arith); code-at = λ k. absurd (omega arith) })) e
+  pub code-at-12 : (p : Reading) → sheetCheck sheet ≡ passed p → p .code ≡ 12
+  unfolding sheetCheck At12
+  code-at-12 p e = held At12 (sheetCheck sheet) p (read-placed (length sheet) 0 unread (record { first = λ e. refl; second = λ e. absurd (omega arith); code-at = λ k. absurd (omega arith) })) e
 
 -- ---- the load by the answers to its questions
 
 module _ (sheet slots kinds words : List ℕ) where
-  pub load-refused : (n : ℕ) → sheetAsked sheet ≡ refused n → record { load = Load.Refused n; slots = slots; kinds = kinds; words = words } ≡ loadOf sheet slots kinds words
+  pub load-refused : (n : ℕ) → sheetCheck sheet ≡ refused n → record { load = Load.Refused n; slots = slots; kinds = kinds; words = words } ≡ loadOf sheet slots kinds words
   unfolding loadOf _>>=_
   load-refused n e = rw e
 
-  module _ (p : Reading) (read : sheetAsked sheet ≡ passed p) where
-    pub load-short : (n : ℕ) → memoryAsked p slots kinds words ≡ refused n → record { load = Load.Refused n; slots = slots; kinds = kinds; words = words } ≡ loadOf sheet slots kinds words
+  module _ (p : Reading) (read : sheetCheck sheet ≡ passed p) where
+    pub load-short : (n : ℕ) → memoryCheck p slots kinds words ≡ refused n → record { load = Load.Refused n; slots = slots; kinds = kinds; words = words } ≡ loadOf sheet slots kinds words
     unfolding loadOf _>>=_ _>>_
     load-short n e = rw (read, e)
 
-    pub load-accepted : memoryAsked p slots kinds words ≡ passed tt → (filled : Pool) → filled ≡ loadedPool sheet p kinds words
+    pub load-accepted : memoryCheck p slots kinds words ≡ passed tt → (filled : Pool) → filled ≡ loadedPool sheet p kinds words
         → record { load = Load.Accepted (loadedState (p .«max_stack») (p .«max_locals»)) (p .code) (p .«code_length»); slots = loadedSlots sheet p slots; kinds = filled .kinds; words = filled .words } ≡ loadOf sheet slots kinds words
     unfolding loadOf _>>=_ _>>_
     load-accepted e filled f = rw (read, e, f)

@@ -10,10 +10,10 @@ use Rattle.rules.specs.declared.State.{State}
 use Rattle.rules.specs.declared.Update.{Update}
 use Rattle.rules.specs.declared.Decision.the-variants.{Ordinary, Return, Throw, Refused}
 use Rattle.rules.specs.declared.End.the-variants as End
-use Rattle.rules.specs.Asked.{passed, refused, _else_, _>>_, _>>=_}
+use Rattle.rules.specs.Check.{passed, refused, _else_, _>>_, _>>=_}
 use Rattle.rules.specs.Forms.{Result}
 use Rattle.rules.specs.Fetch.{Instruction, fetched}
-use Rattle.rules.specs.Questions.{Lent, frameAsked, needsAsked}
+use Rattle.rules.specs.Questions.{Method, frameCheck, needsCheck}
 use Rattle.rules.specs.Step.{frame, wordsAt, inside, outcome, decision, decideOf, moved, written}
 use Rattle.rules.specs.Run.{ends, runFrom}
 
@@ -30,31 +30,31 @@ next-outside code n h = simp (le-ltb _ _ h)
 -- ---- the decision
 
 -- what an instruction does with the words that it works on
-abbrev pub result : Lent → State → List ℕ → Instruction → Result
+abbrev pub result : Method → State → List ℕ → Instruction → Result
 result l s slots i = i .rule .does (i .operand) (wordsAt (i .rule .reads) l s (frame s slots) i)
 
-module _ (l : Lent) (s : State) (slots : List ℕ) where
-  pub refused-by-frame : (n : ℕ) → frameAsked l s slots ≡ refused n → decideOf l s slots ≡ Refused n
+module _ (l : Method) (s : State) (slots : List ℕ) where
+  pub refused-by-frame : (n : ℕ) → frameCheck l s slots ≡ refused n → decideOf l s slots ≡ Refused n
   unfolding decideOf _>>_
   refused-by-frame n e = rw e
 
-  module _ (framed : frameAsked l s slots ≡ passed tt) where
+  module _ (framed : frameCheck l s slots ≡ passed tt) where
     pub refused-by-fetch : (n : ℕ) → fetched (l .code) (s .pc) ≡ refused n → decideOf l s slots ≡ Refused n
     unfolding decideOf _>>_ _>>=_
     refused-by-fetch n e = rw (framed, e)
 
     module _ (i : Instruction) (at : fetched (l .code) (s .pc) ≡ passed i) where
-      pub refused-by-needs : (n : ℕ) → needsAsked l s i ≡ refused n → decideOf l s slots ≡ Refused n
+      pub refused-by-needs : (n : ℕ) → needsCheck l s i ≡ refused n → decideOf l s slots ≡ Refused n
       unfolding decideOf _>>_ _>>=_
       refused-by-needs n e = rw (framed, at, e)
 
-      pub decided : needsAsked l s i ≡ passed tt → decideOf l s slots ≡ decision (outcome l s i (result l s slots i))
+      pub decided : needsCheck l s i ≡ passed tt → decideOf l s slots ≡ decision (outcome l s i (result l s slots i))
       unfolding decideOf _>>_ _>>=_
       decided e = rw (framed, at, e)
 
 -- ---- the run, n steps being taken already
 
-module _ (l : Lent) (b n : ℕ) (s : State) (slots : List ℕ) where
+module _ (l : Method) (b n : ℕ) (s : State) (slots : List ℕ) where
   pub run-ordinary : (u : Update) → decideOf l s slots ≡ Ordinary u → runFrom l (suc b) n s slots ≡ runFrom l b (suc n) (moved s (u .pc) (u .depth) 0) (written u slots)
   unfolding runFrom
   run-ordinary u e = rw (e, runFrom)
@@ -72,6 +72,6 @@ module _ (l : Lent) (b n : ℕ) (s : State) (slots : List ℕ) where
   run-refused k e = rw (e, runFrom)
 
 -- with no budget left there is no further look
-pub run-stopped : (l : Lent) (n : ℕ) (s : State) (slots : List ℕ) → runFrom l zero n s slots ≡ ends s slots n End.Stopped
+pub run-stopped : (l : Method) (n : ℕ) (s : State) (slots : List ℕ) → runFrom l zero n s slots ≡ ends s slots n End.Stopped
 unfolding runFrom
 run-stopped l n s slots = refl

@@ -16,12 +16,12 @@ use Rattle.rules.specs.declared.Decision.the-variants as Decision
 use Rattle.rules.specs.declared.Pressed.{Pressed}
 use Rattle.rules.specs.declared.Pressed.the-variants.{Granted, Return, Throw, Refused}
 use Rattle.rules.specs.declared.End.the-variants as End
-use Rattle.rules.specs.Asked.{passed, _else_}
-use Rattle.rules.specs.Questions.{Lent}
+use Rattle.rules.specs.Check.{passed, _else_}
+use Rattle.rules.specs.Questions.{Method}
 use Rattle.rules.specs.Step.{frame, decideOf, moved, updateWords, written}
 use Rattle.rules.specs.Run.{runFrom, uncounted, runOf}
 use Rattle.rules.specs.Fetch.{u8}
-use Rattle.rules.specs.Sheet.{sheetAsked, memoryAsked, loadedState, loadedSlots, loadedPool, Loaded, loadOf}
+use Rattle.rules.specs.Sheet.{sheetCheck, memoryCheck, loadedState, loadedSlots, loadedPool, Loaded, loadOf}
 use Rattle.rules.specs.Walk.{Stage, stageOf, decisionAt, next, stage, Press, forward, back, askedAnswer, forwardAnswer, decisionOf, plainAnswer, netAfter, plainAnswers, plainNet, pressOf, Walked, walkOf, one, grants, refusedWith, refusals, Whole, stage0, Demand3}
 use Rattle.rules.proofs.Questions.{Framed, frame-passed}
 use Rattle.rules.proofs.Step.{run-ordinary}
@@ -34,11 +34,11 @@ use Rattle.rules.proofs.OnePress.{size, frame-length, decides, Stands, 
 
 -- ---- a list of presses follows the plain walk, from any net on
 
-record Follows (l : Lent) (s₀ : State) (t₀ : Stage) (slots₀ : List ℕ) (room net : ℕ) (answers : List Pressed) (w : Walked) : Type 0 where
+record Follows (l : Method) (s₀ : State) (t₀ : Stage) (slots₀ : List ℕ) (room net : ℕ) (answers : List Pressed) (w : Walked) : Type 0 where
   answered : w .answers ≡ answers
   stands : Stands l s₀ t₀ slots₀ room net (w .state) (w .slots) (w .log)
 
-module _ (l : Lent) (s₀ : State) (t₀ : Stage) (slots₀ : List ℕ) (room : ℕ) (whole : length (t₀ .frame) ≡ size s₀) where
+module _ (l : Method) (s₀ : State) (t₀ : Stage) (slots₀ : List ℕ) (room : ℕ) (whole : length (t₀ .frame) ≡ size s₀) where
   follows : (presses : List Press) (net : ℕ) (s : State) (slots log : List ℕ) → Stands l s₀ t₀ slots₀ room net s slots log
       → Follows l s₀ t₀ slots₀ room (plainNet l s₀ t₀ room presses net) (plainAnswers l s₀ t₀ room presses net) (walkOf l presses s slots log)
   unfolding plainNet plainAnswers walkOf
@@ -104,7 +104,7 @@ module _ (l : Lent) (s₀ : State) (t₀ : Stage) (slots₀ : List ℕ) (room : 
 
 -- ---- a run of n steps, from where stage n exists, ends there
 
-module _ (l : Lent) (s₀ : State) where
+module _ (l : Method) (s₀ : State) where
   -- stages counted from the next one
   stage-shift : (t u : Stage) → next l s₀ (some t) ≡ some u → (n : ℕ) → stage l s₀ t (suc n) ≡ stage l s₀ u n
   unfolding stage
@@ -156,14 +156,14 @@ module _ (l : Lent) (s₀ : State) where
 state-is : (s r : State) (n : ℕ) → r .«max_stack» ≡ s .«max_stack» → r .«max_locals» ≡ s .«max_locals» → r .count ≡ n → r ≡ moved s (r .pc) (r .depth) n
 state-is s r n a b c = rw (← a, ← b, ← c)
 
-ran-to : (l : Lent) (n : ℕ) (s r : State) (slots after : List ℕ) → Framed l s slots → stage l s (stageOf s slots) n ≡ some (stageOf r after)
+ran-to : (l : Method) (n : ℕ) (s r : State) (slots after : List ℕ) → Framed l s slots → stage l s (stageOf s slots) n ≡ some (stageOf r after)
     → r .«max_stack» ≡ s .«max_stack» → r .«max_locals» ≡ s .«max_locals» → drop (size s) after ≡ drop (size s) slots
     → runOf l n s slots ≡ record { state = uncounted r; steps = n; end = End.Stopped; slots = after }
 unfolding runOf RunsTo
 ran-to l n s r slots after f q a b beyond =
     rw (frame-passed l s slots f, runs-to l s n 0 s slots (stageOf r after) refl refl f q, a, b, ← beyond, take-append-drop, zero-add)
 
-module _ (l : Lent) (s : State) (slots log : List ℕ) (f : Framed l s slots) (fresh : s .count ≡ 0) where
+module _ (l : Method) (s : State) (slots log : List ℕ) (f : Framed l s slots) (fresh : s .count ≡ 0) where
   begins : Stands l s (stageOf s slots) slots (length log) 0 s slots log
   unfolding stage
   begins = record {
@@ -197,10 +197,10 @@ module _ (l : Lent) (s : State) (slots log : List ℕ) (f : Framed l s slots) (f
 
 -- ---- from an accepted load
 
-restaged : (l : Lent) (s : State) {t u : Stage} (slots : List ℕ) (room : ℕ) (presses : List Press) (w : Walked) → t ≡ u → Whole l s t slots room presses w → Whole l s u slots room presses w
+restaged : (l : Method) (s : State) {t u : Stage} (slots : List ℕ) (room : ℕ) (presses : List Press) (w : Walked) → t ≡ u → Whole l s t slots room presses w → Whole l s u slots room presses w
 restaged l s slots room presses w e h = subst (λ (t : Stage). Whole l s t slots room presses w) e h
 
-module _ (sheet slots kinds words : List ℕ) (bytes : (i : ℕ) → u8 sheet i < 256) (p : Reading) (read : sheetAsked sheet ≡ passed p) (fits : memoryAsked p slots kinds words ≡ passed tt) where
+module _ (sheet slots kinds words : List ℕ) (bytes : (i : ℕ) → u8 sheet i < 256) (p : Reading) (read : sheetCheck sheet ≡ passed p) (fits : memoryCheck p slots kinds words ≡ passed tt) where
   first-stage : stageOf (loadedState (p .«max_stack») (p .«max_locals»)) (loadedSlots sheet p slots) ≡ stage0 sheet p
   first-stage = ap (λ (f : List ℕ). record { pc = 0; depth = 0; frame = f }) (frame-is sheet slots kinds words bytes p read fits)
 

@@ -6,7 +6,7 @@ use mathlib.Core.Option.{Option, none, some}
 use lib.IntN.{ℤ, pos, _+ℤ_, _-ℤ_, natAbs}
 use lib.ListN.{length, getD}
 use Rattle.values.specs.Integers.{signed, _<ᶻ_, _≤ᶻ_}
-use Rattle.rules.specs.Asked.{Asked, passed, refused, _else_, _>>=_, _>>_, _≤ⁿ_, _<ⁿ_, _=ⁿ_}
+use Rattle.rules.specs.Check.{Check, passed, refused, _else_, _>>=_, _>>_, _≤ⁿ_, _<ⁿ_, _=ⁿ_}
 use Rattle.rules.specs.Forms.{Row, Rule, Operand, Format, alone, implied, byte, short, index, index2, index-const, branch, branch4, table, pairs, widened}
 use Rattle.rules.specs.Instructions.{rowOf}
 
@@ -44,16 +44,16 @@ operands x c ps = record { index = x; constant = c; pairs = ps }
 abbrev pub instruction : Row → ℕ → Operand → Instruction
 instruction r n o = record { opcode = r .opcode; rule = r .rule; size = n; operand = o }
 
-abbrev pub coreRow : Option Row → Asked Row
+abbrev pub coreRow : Option Row → Check Row
 coreRow none = refused 4
 coreRow (some r) = passed r
 
 -- 4. Is the opcode core?
-abbrev pub core : ℕ → Asked Row
+abbrev pub core : ℕ → Check Row
 core n = coreRow (rowOf n)
 
 -- 5. Are its operand bytes in the code? The instruction is n bytes long
-abbrev pub sized : List ℕ → ℕ → Row → ℕ → Operand → Asked Instruction
+abbrev pub sized : List ℕ → ℕ → Row → ℕ → Operand → Check Instruction
 sized code pc r n o = do
   pc + n ≤ⁿ length code else 5
   passed (instruction r n o)
@@ -68,8 +68,8 @@ abbrev pub wideOpcode : List ℕ → ℕ → ℕ
 wideOpcode code pc = u8 code (pc + 1)
 
 -- second byte there? 5. Allowed? 4. The rest there? 5
-unfoldable pub wideAsked : List ℕ → ℕ → Asked Instruction
-wideAsked code pc = do
+unfoldable pub wideCheck : List ℕ → ℕ → Check Instruction
+wideCheck code pc = do
   pc + 1 <ⁿ length code else 5
   widens (wideOpcode code pc) else 4
   r ← core (wideOpcode code pc)
@@ -118,8 +118,8 @@ abbrev pub tableOperand : List ℕ → ℕ → Operand
 tableOperand code pc = operands 0 (s32 code (aligned pc)) (offsetsFrom code (aligned pc + 12) (lowKey code pc) (keys code pc))
 
 -- fixed fields in the code? 5. low ≤ high? 6. Table in the code? 5
-unfoldable pub tableAsked : List ℕ → ℕ → Row → Asked Instruction
-tableAsked code pc r = do
+unfoldable pub tableCheck : List ℕ → ℕ → Row → Check Instruction
+tableCheck code pc r = do
   aligned pc + 12 ≤ⁿ length code else 5
   lowKey code pc ≤ᶻ highKey code pc else 6
   tableEnd code pc ≤ⁿ length code else 5
@@ -139,8 +139,8 @@ abbrev pub pairsOperand : List ℕ → ℕ → Operand
 pairsOperand code pc = operands 0 (s32 code (aligned pc)) (keyPairs code pc)
 
 -- fixed fields in the code? 5. Pair count not negative? 6. Table in the code? 5. Keys strictly rising? 6
-unfoldable pub lookupAsked : List ℕ → ℕ → Row → Asked Instruction
-lookupAsked code pc r = do
+unfoldable pub lookupCheck : List ℕ → ℕ → Row → Check Instruction
+lookupCheck code pc r = do
   aligned pc + 8 ≤ⁿ length code else 5
   pos 0 ≤ᶻ pairCount code pc else 6
   pairsEnd code pc ≤ⁿ length code else 5
@@ -149,7 +149,7 @@ lookupAsked code pc r = do
 
 -- ---- every format
 
-abbrev pub byFormat : List ℕ → ℕ → Row → Format → Asked Instruction
+abbrev pub byFormat : List ℕ → ℕ → Row → Format → Check Instruction
 byFormat code pc r alone = sized code pc r 1 (operands 0 (pos 0) [])
 byFormat code pc r (implied n) = sized code pc r 1 (operands n (pos 0) [])
 byFormat code pc r byte = sized code pc r 2 (operands 0 (s8 code (pc + 1)) [])
@@ -159,12 +159,12 @@ byFormat code pc r index2 = sized code pc r 3 (operands (u16 code (pc + 1)) (pos
 byFormat code pc r index-const = sized code pc r 3 (operands (u8 code (pc + 1)) (s8 code (pc + 2)) [])
 byFormat code pc r branch = sized code pc r 3 (operands 0 (s16 code (pc + 1)) [])
 byFormat code pc r branch4 = sized code pc r 5 (operands 0 (s32 code (pc + 1)) [])
-byFormat code pc r table = tableAsked code pc r
-byFormat code pc r pairs = lookupAsked code pc r
-byFormat code pc r widened = wideAsked code pc
+byFormat code pc r table = tableCheck code pc r
+byFormat code pc r pairs = lookupCheck code pc r
+byFormat code pc r widened = wideCheck code pc
 
 -- questions 4 and 5
-unfoldable pub fetched : List ℕ → ℕ → Asked Instruction
+unfoldable pub fetched : List ℕ → ℕ → Check Instruction
 fetched code pc = do
   r ← core (u8 code pc)
   byFormat code pc r (r .format)

@@ -10,8 +10,8 @@ use Rattle.rules.specs.declared.Decision.{Decision}
 use Rattle.rules.specs.declared.Decision.the-variants as Decision
 use Rattle.rules.specs.declared.Pressed.{Pressed}
 use Rattle.rules.specs.declared.Pressed.the-variants.{Granted, Return, Throw, Refused}
-use Rattle.rules.specs.Asked.{Asked, passed, refused, _else_, _>>_, _≤ⁿ_, _<ⁿ_, _=ⁿ_}
-use Rattle.rules.specs.Questions.{Lent, frameAsked}
+use Rattle.rules.specs.Check.{Check, passed, refused, _else_, _>>_, _≤ⁿ_, _<ⁿ_, _=ⁿ_}
+use Rattle.rules.specs.Questions.{Method, frameCheck}
 use Rattle.rules.specs.Step.{decideOf, moved, written}
 
 -- what a press leaves, and its answer
@@ -53,40 +53,40 @@ granted s slots log u =
     }
 
 -- 11. With history: are ten words of log left after 10 times count? 12
-abbrev pub logAsked : ℕ → ℕ → Asked (Unit {0})
-logAsked count room = entryAt count + 10 ≤ⁿ room else 12
+abbrev pub logCheck : ℕ → ℕ → Check (Unit {0})
+logCheck count room = entryAt count + 10 ≤ⁿ room else 12
 
-abbrev pub grantedBy : State → List ℕ → List ℕ → Update → Asked (Unit {0}) → Out
+abbrev pub grantedBy : State → List ℕ → List ℕ → Update → Check (Unit {0}) → Out
 grantedBy s slots log u (passed t) = granted s slots log u
 grantedBy s slots log u (refused n) = kept s slots log (Refused n)
 
 abbrev pub forwardBy : State → List ℕ → List ℕ → Decision → Out
-forwardBy s slots log (Decision.Ordinary u) = grantedBy s slots log u (logAsked (s .count) (length log))
+forwardBy s slots log (Decision.Ordinary u) = grantedBy s slots log u (logCheck (s .count) (length log))
 forwardBy s slots log (Decision.Return v) = kept s slots log (Return v)
 forwardBy s slots log Decision.Throw = kept s slots log Throw
 forwardBy s slots log (Decision.Refused n) = kept s slots log (Refused n)
 
-unfoldable pub forwardOf : Lent → State → List ℕ → List ℕ → Out
+unfoldable pub forwardOf : Method → State → List ℕ → List ℕ → Out
 forwardOf l s slots log = forwardBy s slots log (decideOf l s slots)
 
 -- ---- back
 
 -- has the entry at an index of the log pc in the code, depth at most max_stack, at most six places, all in the frame? 14. Where it has no places its first
 -- place is not looked at
-unfoldable pub entryAsked : List ℕ → State → List ℕ → ℕ → Asked (Unit {0})
-entryAsked code s log k = do
+unfoldable pub entryCheck : List ℕ → State → List ℕ → ℕ → Check (Unit {0})
+entryCheck code s log k = do
   getD log k 0 <ⁿ length code else 14
   getD log (k + 1) 0 ≤ⁿ s .«max_stack» else 14
   getD log (k + 3) 0 ≤ⁿ 6 else 14
   (getD log (k + 3) 0 =ⁿ 0) || (getD log (k + 2) 0 + getD log (k + 3) 0 ≤ⁿ s .«max_locals» + s .«max_stack») else 14
 
 -- questions 1 to 3; is count above 0? 13; does the log reach 10 times count? 14; the entry
-unfoldable pub backAsked : Lent → State → List ℕ → List ℕ → Asked (Unit {0})
-backAsked l s slots log = do
-  frameAsked l s slots
+unfoldable pub backCheck : Method → State → List ℕ → List ℕ → Check (Unit {0})
+backCheck l s slots log = do
+  frameCheck l s slots
   0 <ⁿ s .count else 13
   entryAt (s .count) ≤ⁿ length log else 14
-  entryAsked (l .code) s log (entryAt (s .count - 1))
+  entryCheck (l .code) s log (entryAt (s .count - 1))
 
 -- the old words written, pc and depth restored, count lowered; no log word changed
 abbrev pub restored : State → List ℕ → List ℕ → ℕ → Out
@@ -98,9 +98,9 @@ restored s slots log k =
       log = log;
     }
 
-abbrev pub backBy : State → List ℕ → List ℕ → Asked (Unit {0}) → Out
+abbrev pub backBy : State → List ℕ → List ℕ → Check (Unit {0}) → Out
 backBy s slots log (passed t) = restored s slots log (entryAt (s .count - 1))
 backBy s slots log (refused n) = kept s slots log (Refused n)
 
-unfoldable pub backOf : Lent → State → List ℕ → List ℕ → Out
-backOf l s slots log = backBy s slots log (backAsked l s slots log)
+unfoldable pub backOf : Method → State → List ℕ → List ℕ → Out
+backOf l s slots log = backBy s slots log (backCheck l s slots log)

@@ -1,4 +1,4 @@
-pub mod Asked
+pub mod Check
 pub mod Forms
 pub mod Instructions
 pub mod Fetch

@@ -5,22 +5,22 @@ use mathlib.Core.List.{List, [], _∷_}
 use lib.ListN.{length, getD}
 use Rattle.values.specs.Kinds.{Kind, int, long, float, double, reference, any, places, placesOf}
 use Rattle.rules.specs.declared.State.{State}
-use Rattle.rules.specs.Asked.{Asked, _else_, _>>_, _≤ⁿ_, _<ⁿ_, _=ⁿ_}
+use Rattle.rules.specs.Check.{Check, _else_, _>>_, _≤ⁿ_, _<ⁿ_, _=ⁿ_}
 use Rattle.rules.specs.Fetch.{Instruction}
 
 -- what is lent and never written: the code, and the constant pool as kinds and words
-pub record Lent : Type 0 where
+pub record Method : Type 0 where
   pub code : List ℕ
   pub kinds : List ℕ
   pub words : List ℕ
 
-abbrev pub lent : List ℕ → List ℕ → List ℕ → Lent
-lent code kinds words = record { code = code; kinds = kinds; words = words }
+abbrev pub method : List ℕ → List ℕ → List ℕ → Method
+method code kinds words = record { code = code; kinds = kinds; words = words }
 
 -- ---- questions 1 to 3
 
-unfoldable pub frameAsked : Lent → State → List ℕ → Asked (Unit {0})
-frameAsked l s slots = do
+unfoldable pub frameCheck : Method → State → List ℕ → Check (Unit {0})
+frameCheck l s slots = do
   -- 1. Are kinds and words equally long, at most 65,536, and slots at least max_locals + max_stack?
   length (l .kinds) =ⁿ length (l .words) else 1
   length (l .kinds) ≤ⁿ 65536 else 1
@@ -64,8 +64,8 @@ abbrev pub constantThere : List ℕ → ℕ → List Kind → Bool
 constantThere tags x [] = true
 constantThere tags x (k ∷ ks) = oneStandsAt tags x (k ∷ ks)
 
-unfoldable pub needsAsked : Lent → State → Instruction → Asked (Unit {0})
-needsAsked l s i = do
+unfoldable pub needsCheck : Method → State → Instruction → Check (Unit {0})
+needsCheck l s i = do
   -- 6. Is what it pops there?
   popped i ≤ⁿ s .depth else 7
   -- 7. Does what it pushes fit max_stack?

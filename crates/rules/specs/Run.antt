@@ -8,8 +8,8 @@ use Rattle.rules.specs.declared.Decision.{Decision}
 use Rattle.rules.specs.declared.Decision.the-variants.{Ordinary, Return, Throw, Refused}
 use Rattle.rules.specs.declared.End.{End}
 use Rattle.rules.specs.declared.End.the-variants as End
-use Rattle.rules.specs.Asked.{Asked, passed, refused}
-use Rattle.rules.specs.Questions.{Lent, frameAsked}
+use Rattle.rules.specs.Check.{Check, passed, refused}
+use Rattle.rules.specs.Questions.{Method, frameCheck}
 use Rattle.rules.specs.Step.{decideOf, moved, written}
 
 pub record Ran : Type 0 where
@@ -26,7 +26,7 @@ abbrev pub ends : State → List ℕ → ℕ → End → Ran
 ends s slots n e = record { state = uncounted s; steps = n; end = e; slots = slots }
 
 -- n steps are taken already; with no budget left there is no further look
-unfoldable pub runFrom : Lent → ℕ → ℕ → State → List ℕ → Ran
+unfoldable pub runFrom : Method → ℕ → ℕ → State → List ℕ → Ran
 runFrom l zero n s slots = ends s slots n End.Stopped
 runFrom l (suc b) n s slots =
     elim (decideOf l s slots) [
@@ -37,17 +37,17 @@ runFrom l (suc b) n s slots =
     ]
 
 -- questions 1 to 3 come first, also with budget 0: refused there, it gives the state that it got
-abbrev pub runAsked : Lent → ℕ → State → List ℕ → Asked (Unit {0}) → Ran
-runAsked l budget s slots (passed t) = runFrom l budget 0 s slots
-runAsked l budget s slots (refused k) = record { state = s; steps = 0; end = End.Refused k; slots = slots }
+abbrev pub runCheck : Method → ℕ → State → List ℕ → Check (Unit {0}) → Ran
+runCheck l budget s slots (passed t) = runFrom l budget 0 s slots
+runCheck l budget s slots (refused k) = record { state = s; steps = 0; end = End.Refused k; slots = slots }
 
-unfoldable pub runOf : Lent → ℕ → State → List ℕ → Ran
-runOf l budget s slots = runAsked l budget s slots (frameAsked l s slots)
+unfoldable pub runOf : Method → ℕ → State → List ℕ → Ran
+runOf l budget s slots = runCheck l budget s slots (frameCheck l s slots)
 
 -- ---- what a run's steps are
 
 -- the state and the slots after n ordinary steps without history, if that many can be taken
-unfoldable pub stepsOf : Lent → ℕ → State → List ℕ → Option (State × List ℕ)
+unfoldable pub stepsOf : Method → ℕ → State → List ℕ → Option (State × List ℕ)
 stepsOf l zero s slots = some (s, slots)
 stepsOf l (suc n) s slots =
     elim (decideOf l s slots) [
@@ -65,11 +65,11 @@ endBy Throw = some End.Throw
 endBy (Refused k) = some (End.Refused k)
 
 -- a run that has ended: it stopped with its budget used up, or what it ended with is what the rules decide where it stands
-pub data Ended (l : Lent) (budget : ℕ) (r : Ran) : Type 0 where
+pub data Ended (l : Method) (budget : ℕ) (r : Ran) : Type 0 where
   stopped : r .steps ≡ budget → r .end ≡ End.Stopped → Ended l budget r
   ended : r .steps < budget → endBy (decideOf l (r .state) (r .slots)) ≡ some (r .end) → Ended l budget r
 
 -- what a run says of itself: questions 1 to 3 refuse it and nothing changes; or its steps lead from the given state to the one it gives, where it ended
-pub data Told (l : Lent) (budget : ℕ) (s : State) (slots : List ℕ) (r : Ran) : Type 0 where
-  untaken : (k : ℕ) → frameAsked l s slots ≡ refused k → r ≡ record { state = s; steps = 0; end = End.Refused k; slots = slots } → Told l budget s slots r
-  taken : frameAsked l s slots ≡ passed tt → stepsOf l (r .steps) (uncounted s) slots ≡ some (r .state, r .slots) → Ended l budget r → Told l budget s slots r
+pub data Told (l : Method) (budget : ℕ) (s : State) (slots : List ℕ) (r : Ran) : Type 0 where
+  untaken : (k : ℕ) → frameCheck l s slots ≡ refused k → r ≡ record { state = s; steps = 0; end = End.Refused k; slots = slots } → Told l budget s slots r
+  taken : frameCheck l s slots ≡ passed tt → stepsOf l (r .steps) (uncounted s) slots ≡ some (r .state, r .slots) → Ended l budget r → Told l budget s slots r

@@ -9,7 +9,7 @@ use Rattle.rules.specs.declared.Mark.the-variants.{LM, CD, KI, AR}
 use Rattle.rules.specs.declared.Reading.{Reading}
 use Rattle.rules.specs.declared.Load.{Load}
 use Rattle.rules.specs.declared.Load.the-variants as Load
-use Rattle.rules.specs.Asked.{Asked, passed, refused, _else_, _>>=_, _>>_, _≤ⁿ_, _<ⁿ_, _=ⁿ_}
+use Rattle.rules.specs.Check.{Check, passed, refused, _else_, _>>=_, _>>_, _≤ⁿ_, _<ⁿ_, _=ⁿ_}
 use Rattle.rules.specs.Fetch.{u8, u16, u32}
 
 -- ---- a record at an offset of the sheet: a mark of two ASCII bytes, the length of its body in 16 bits, the body
@@ -24,7 +24,7 @@ bodyAt at = at + 4
 abbrev pub recordEnd : List ℕ → ℕ → ℕ
 recordEnd sheet at = bodyAt at + bodyLength sheet at
 
-abbrev pub knownMark : ℕ → Asked Mark
+abbrev pub knownMark : ℕ → Check Mark
 knownMark n = cond (n =ⁿ 0x4C4D) (passed LM) (cond (n =ⁿ 0x4344) (passed CD) (cond (n =ⁿ 0x4B49) (passed KI) (cond (n =ⁿ 0x4152) (passed AR) (refused 22))))
 
 -- the order: LM, CD, any number of KI, AR. The last record's mark is known by its number, 0 before the first record
@@ -90,47 +90,47 @@ unfoldable pub lastIndex : List ℕ → ℕ → ℕ
 lastIndex sheet at = cond (isWide sheet at) (poolIndex sheet at + 1) (poolIndex sheet at)
 
 -- KI: tag suits length, index above 0 and all used, a long's second at most 65,535? 25. AR: arguments at most max_locals? 27
-unfoldable pub contentsAsked : List ℕ → ℕ → Reading → Mark → Asked Reading
-contentsAsked sheet at p LM = passed (withLimits p (u16 sheet (bodyAt at)) (u16 sheet (bodyAt at + 2)))
-contentsAsked sheet at p CD = passed (withCode p (bodyAt at) (bodyLength sheet at))
-contentsAsked sheet at p KI = do
+unfoldable pub contentsCheck : List ℕ → ℕ → Reading → Mark → Check Reading
+contentsCheck sheet at p LM = passed (withLimits p (u16 sheet (bodyAt at)) (u16 sheet (bodyAt at + 2)))
+contentsCheck sheet at p CD = passed (withCode p (bodyAt at) (bodyLength sheet at))
+contentsCheck sheet at p KI = do
   tagSuits (poolTag sheet at) (bodyLength sheet at) else 25
   p .used <ⁿ poolIndex sheet at else 25
   lastIndex sheet at ≤ⁿ 65535 else 25
   passed (withConstant p (lastIndex sheet at))
-contentsAsked sheet at p AR = do
+contentsCheck sheet at p AR = do
   bodyLength sheet at / 4 ≤ⁿ p .«max_locals» else 27
   passed (withArguments p (bodyAt at) (bodyLength sheet at / 4))
 
 -- four bytes and the body present? 21. Mark known? 22. Order as above? 23. Length right? 24. Then 25 or 27
-unfoldable pub recordAsked : List ℕ → ℕ → Reading → Asked Reading
-recordAsked sheet at p = do
+unfoldable pub recordCheck : List ℕ → ℕ → Reading → Check Reading
+recordCheck sheet at p = do
   bodyAt at ≤ⁿ length sheet else 21
   recordEnd sheet at ≤ⁿ length sheet else 21
   m ← knownMark (u16 sheet at)
   follows m (p .last) else 23
   rightLength m (bodyLength sheet at) else 24
-  contentsAsked sheet at p m
+  contentsCheck sheet at p m
 
 -- at the end of the bytes: was AR seen? 23
-abbrev pub endAsked : Reading → Asked Reading
-endAsked p = do
+abbrev pub endCheck : Reading → Check Reading
+endCheck p = do
   p .last =ⁿ markNumber AR else 23
   passed p
 
 -- record by record from an offset on. A record has at least four bytes, so that as many turns as there are bytes left are more than enough
-unfoldable pub readFrom : ℕ → List ℕ → ℕ → Reading → Asked Reading
-readFrom zero sheet at p = endAsked p
-readFrom (suc n) sheet at p = cond (length sheet ≤ⁿ at) (endAsked p) (do
-  q ← recordAsked sheet at p
+unfoldable pub readFrom : ℕ → List ℕ → ℕ → Reading → Check Reading
+readFrom zero sheet at p = endCheck p
+readFrom (suc n) sheet at p = cond (length sheet ≤ⁿ at) (endCheck p) (do
+  q ← recordCheck sheet at p
   readFrom n sheet (recordEnd sheet at) q)
 
-unfoldable pub sheetAsked : List ℕ → Asked Reading
-sheetAsked sheet = readFrom (length sheet) sheet 0 unread
+unfoldable pub sheetCheck : List ℕ → Check Reading
+sheetCheck sheet = readFrom (length sheet) sheet 0 unread
 
 -- then: do slots, kinds and words reach, kinds and words equally long, at most 65,536? 26
-unfoldable pub memoryAsked : Reading → List ℕ → List ℕ → List ℕ → Asked (Unit {0})
-memoryAsked p slots kinds words = do
+unfoldable pub memoryCheck : Reading → List ℕ → List ℕ → List ℕ → Check (Unit {0})
+memoryCheck p slots kinds words = do
   p .«max_locals» + p .«max_stack» ≤ⁿ length slots else 26
   (p .used =ⁿ 0) || (p .used <ⁿ length kinds) else 26
   length kinds =ⁿ length words else 26
@@ -199,7 +199,7 @@ pub record Loaded : Type 0 where
   pub kinds : List ℕ
   pub words : List ℕ
 
-abbrev pub loadBy : List ℕ → List ℕ → List ℕ → List ℕ → Asked Reading → Loaded
+abbrev pub loadBy : List ℕ → List ℕ → List ℕ → List ℕ → Check Reading → Loaded
 loadBy sheet slots kinds words (passed p) =
     record {
       load = Load.Accepted (loadedState (p .«max_stack») (p .«max_locals»)) (p .code) (p .«code_length»);
@@ -212,8 +212,8 @@ loadBy sheet slots kinds words (refused n) = record { load = Load.Refused n; slo
 -- nothing is written unless the whole sheet and all lengths are accepted
 unfoldable pub loadOf : List ℕ → List ℕ → List ℕ → List ℕ → Loaded
 loadOf sheet slots kinds words = loadBy sheet slots kinds words (do
-  p ← sheetAsked sheet
-  memoryAsked p slots kinds words
+  p ← sheetCheck sheet
+  memoryCheck p slots kinds words
   passed p)
 
 -- what a load hands back besides: a refused one a state of zeros and the empty part at the sheet's start

@@ -10,10 +10,10 @@ use Rattle.rules.specs.declared.State.{State}
 use Rattle.rules.specs.declared.Update.{Update}
 use Rattle.rules.specs.declared.Decision.{Decision}
 use Rattle.rules.specs.declared.Decision.the-variants.{Ordinary, Return, Throw, Refused}
-use Rattle.rules.specs.Asked.{Asked, passed, refused, _else_, _>>=_, _>>_, _<ⁿ_, _=ⁿ_}
+use Rattle.rules.specs.Check.{Check, passed, refused, _else_, _>>=_, _>>_, _<ⁿ_, _=ⁿ_}
 use Rattle.rules.specs.Forms.{Result, pushes, stores, divides, branches, returns, Source, stack, local, pool}
 use Rattle.rules.specs.Fetch.{Instruction, fetched}
-use Rattle.rules.specs.Questions.{Lent, popped, pushed, frameAsked, needsAsked}
+use Rattle.rules.specs.Questions.{Method, popped, pushed, frameCheck, needsCheck}
 
 -- ---- the words that an instruction works on
 
@@ -25,7 +25,7 @@ frame s slots = take (s .«max_locals» + s .«max_stack») slots
 abbrev pub base : State → Instruction → ℕ
 base s i = s .«max_locals» + (s .depth - popped i)
 
-abbrev pub wordsAt : Source → Lent → State → List ℕ → Instruction → List ℕ
+abbrev pub wordsAt : Source → Method → State → List ℕ → Instruction → List ℕ
 wordsAt stack l s words i = take (popped i) (drop (base s i) words)
 wordsAt local l s words i = take (placesOf (i .rule .locals)) (drop (i .operand .index) words)
 wordsAt pool l s words i = take (pushed i) (drop (i .operand .index) (l .words))
@@ -54,14 +54,14 @@ update pc depth at n ws =
     }
 
 -- 10. Is the next pc inside the code?
-abbrev pub inside : List ℕ → ℤ → Asked ℕ
+abbrev pub inside : List ℕ → ℤ → Check ℕ
 inside code (pos n) = do
   n <ⁿ length code else 11
   passed n
 inside code (negsuc n) = refused 11
 
 -- an ordinary step to an offset, with n words written from a place on
-abbrev pub ordinary : Lent → State → Instruction → ℤ → ℕ → ℕ → List ℕ → Asked Decision
+abbrev pub ordinary : Method → State → Instruction → ℤ → ℕ → ℕ → List ℕ → Check Decision
 ordinary l s i to at n ws = do
   pc ← inside (l .code) to
   passed (Ordinary (update pc (s .depth - popped i + pushed i) at n ws))
@@ -74,23 +74,23 @@ abbrev pub target : State → ℤ → ℤ
 target s z = pos (s .pc) +ℤ z
 
 -- all that it pushes, from its first place on the stack on; or the local stored. A return or a zero divisor ends before question 10
-abbrev pub outcome : Lent → State → Instruction → Result → Asked Decision
+abbrev pub outcome : Method → State → Instruction → Result → Check Decision
 outcome l s i (pushes ws) = ordinary l s i (following s i) (base s i) (pushed i) ws
 outcome l s i (stores ws) = ordinary l s i (following s i) (i .operand .index) (placesOf (i .rule .locals)) ws
 outcome l s i (divides by ws) = cond (by =ⁿ 0) (passed Throw) (ordinary l s i (following s i) (base s i) (pushed i) ws)
 outcome l s i (branches t z) = ordinary l s i (cond t (target s z) (following s i)) 0 0 []
 outcome l s i (returns v) = passed (Return v)
 
-abbrev pub decision : Asked Decision → Decision
+abbrev pub decision : Check Decision → Decision
 decision (passed d) = d
 decision (refused n) = Refused n
 
 -- questions 1 to 10 in their order, and what the instruction does
-unfoldable pub decideOf : Lent → State → List ℕ → Decision
+unfoldable pub decideOf : Method → State → List ℕ → Decision
 decideOf l s slots = decision (do
-  frameAsked l s slots
+  frameCheck l s slots
   i ← fetched (l .code) (s .pc)
-  needsAsked l s i
+  needsCheck l s i
   outcome l s i (i .rule .does (i .operand) (wordsAt (i .rule .reads) l s (frame s slots) i)))
 
 -- ---- the step without history
@@ -117,5 +117,5 @@ stepBy s slots (Return v) = record { state = s; decision = Return v; slots = slo
 stepBy s slots Throw = record { state = s; decision = Throw; slots = slots }
 stepBy s slots (Refused n) = record { state = s; decision = Refused n; slots = slots }
 
-unfoldable pub stepOf : Lent → State → List ℕ → Stepped
+unfoldable pub stepOf : Method → State → List ℕ → Stepped
 stepOf l s slots = stepBy s slots (decideOf l s slots)

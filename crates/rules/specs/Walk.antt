@@ -12,12 +12,12 @@ use Rattle.rules.specs.declared.Decision.the-variants as Decision
 use Rattle.rules.specs.declared.Pressed.{Pressed}
 use Rattle.rules.specs.declared.Pressed.the-variants.{Granted, Return, Throw, Refused}
 use Rattle.rules.specs.declared.End.the-variants as End
-use Rattle.rules.specs.Asked.{Asked, passed, refused, _<ⁿ_, _=ⁿ_}
-use Rattle.rules.specs.Questions.{Lent, lent}
+use Rattle.rules.specs.Check.{Check, passed, refused, _<ⁿ_, _=ⁿ_}
+use Rattle.rules.specs.Questions.{Method, method}
 use Rattle.rules.specs.Step.{frame, decideOf, moved, written}
 use Rattle.rules.specs.Run.{uncounted, runOf}
 use Rattle.rules.specs.Sheet.{loadedFrame, Loaded, stateOf, codeOf}
-use Rattle.rules.specs.History.{Out, logAsked, forwardOf, backOf}
+use Rattle.rules.specs.History.{Out, logCheck, forwardOf, backOf}
 
 -- ---- stages
 
@@ -32,7 +32,7 @@ abbrev pub stageOf : State → List ℕ → Stage
 stageOf s slots = record { pc = s .pc; depth = s .depth; frame = frame s slots }
 
 -- the rules on a stage of a method whose sizes are a state's
-abbrev pub decisionAt : Lent → State → Stage → Decision
+abbrev pub decisionAt : Method → State → Stage → Decision
 decisionAt l s t = decideOf l (moved s (t .pc) (t .depth) 0) (t .frame)
 
 -- after an ordinary step; where the rules give a refusal or an outcome, no stage follows
@@ -42,12 +42,12 @@ followBy t (Decision.Return v) = none
 followBy t Decision.Throw = none
 followBy t (Decision.Refused n) = none
 
-abbrev pub next : Lent → State → Option Stage → Option Stage
+abbrev pub next : Method → State → Option Stage → Option Stage
 next l s none = none
 next l s (some t) = followBy t (decisionAt l s t)
 
 -- stage n, counted from a stage 0
-unfoldable pub stage : Lent → State → Stage → ℕ → Option Stage
+unfoldable pub stage : Method → State → Stage → ℕ → Option Stage
 stage l s t zero = some t
 stage l s t (suc n) = next l s (stage l s t n)
 
@@ -56,19 +56,19 @@ stage l s t (suc n) = next l s (stage l s t n)
 pub data Press : Type 0 where
   forward back : Press
 
-abbrev pub askedAnswer : Asked (Unit {0}) → Pressed
+abbrev pub askedAnswer : Check (Unit {0}) → Pressed
 askedAnswer (passed t) = Granted
 askedAnswer (refused n) = Refused n
 
 -- forward, by what the rules say of stage net: question 11 is asked with net as the count
 abbrev pub forwardAnswer : ℕ → ℕ → Decision → Pressed
-forwardAnswer room net (Decision.Ordinary u) = askedAnswer (logAsked net room)
+forwardAnswer room net (Decision.Ordinary u) = askedAnswer (logCheck net room)
 forwardAnswer room net (Decision.Return v) = Return v
 forwardAnswer room net Decision.Throw = Throw
 forwardAnswer room net (Decision.Refused n) = Refused n
 
 -- a plain walk's net always has its stage, so that the first clause is never met
-abbrev pub decisionOf : Lent → State → Option Stage → Decision
+abbrev pub decisionOf : Method → State → Option Stage → Decision
 decisionOf l s none = Decision.Refused 0
 decisionOf l s (some t) = decisionAt l s t
 
@@ -76,7 +76,7 @@ decisionOf l s (some t) = decisionAt l s t
 abbrev pub backAnswer : ℕ → Pressed
 backAnswer net = cond (0 <ⁿ net) Granted (Refused 13)
 
-unfoldable pub plainAnswer : Lent → State → Stage → ℕ → Press → ℕ → Pressed
+unfoldable pub plainAnswer : Method → State → Stage → ℕ → Press → ℕ → Pressed
 plainAnswer l s t room forward net = forwardAnswer room net (decisionOf l s (stage l s t net))
 plainAnswer l s t room back net = backAnswer net
 
@@ -92,19 +92,19 @@ netAfter back net Throw = net
 netAfter back net (Refused n) = net
 
 -- the answers to a list of presses, and net after it
-unfoldable pub plainAnswers : Lent → State → Stage → ℕ → List Press → ℕ → List Pressed
+unfoldable pub plainAnswers : Method → State → Stage → ℕ → List Press → ℕ → List Pressed
 plainAnswers l s t room [] net = []
 plainAnswers l s t room (p ∷ ps) net =
     let a = plainAnswer l s t room p net in
     a ∷ plainAnswers l s t room ps (netAfter p net a)
 
-unfoldable pub plainNet : Lent → State → Stage → ℕ → List Press → ℕ → ℕ
+unfoldable pub plainNet : Method → State → Stage → ℕ → List Press → ℕ → ℕ
 plainNet l s t room [] net = net
 plainNet l s t room (p ∷ ps) net = plainNet l s t room ps (netAfter p net (plainAnswer l s t room p net))
 
 -- ---- the walk itself: each press on the state, slots and log that the last one left
 
-unfoldable pub pressOf : Lent → Press → State → List ℕ → List ℕ → Out
+unfoldable pub pressOf : Method → Press → State → List ℕ → List ℕ → Out
 pressOf l forward s slots log = forwardOf l s slots log
 pressOf l back s slots log = backOf l s slots log
 
@@ -114,7 +114,7 @@ pub record Walked : Type 0 where
   pub log : List ℕ
   pub answers : List Pressed
 
-unfoldable pub walkOf : Lent → List Press → State → List ℕ → List ℕ → Walked
+unfoldable pub walkOf : Method → List Press → State → List ℕ → List ℕ → Walked
 walkOf l [] s slots log = record { state = s; slots = slots; log = log; answers = [] }
 walkOf l (p ∷ ps) s slots log =
     let o = pressOf l p s slots log in
@@ -153,7 +153,7 @@ refusals n [] = 0
 refusals n (a ∷ rest) = refusedWith n a + refusals n rest
 
 -- DEMAND 3 of a list of presses, from a state and slots whose stage is stage 0, with a log of `room` words
-pub record Whole (l : Lent) (s₀ : State) (t₀ : Stage) (slots₀ : List ℕ) (room : ℕ) (presses : List Press) (w : Walked) : Type 0 where
+pub record Whole (l : Method) (s₀ : State) (t₀ : Stage) (slots₀ : List ℕ) (room : ℕ) (presses : List Press) (w : Walked) : Type 0 where
   -- every press is answered as by the plain walk; so back is refused, with 13, exactly where net is 0
   pub answered : w .answers ≡ plainAnswers l s₀ t₀ room presses 0
   -- 14 never comes
@@ -176,8 +176,8 @@ abbrev pub stage0 : List ℕ → Reading → Stage
 stage0 sheet p = record { pc = 0; depth = 0; frame = loadedFrame sheet p }
 
 -- what the load handed back and filled is lent to every press
-abbrev pub lentBy : List ℕ → Loaded → Lent
-lentBy sheet m = lent (codeOf sheet (m .load)) (m .kinds) (m .words)
+abbrev pub lentBy : List ℕ → Loaded → Method
+lentBy sheet m = method (codeOf sheet (m .load)) (m .kinds) (m .words)
 
 -- DEMAND 3 of a list of presses from what a load of a sheet left, the log holding anything
 abbrev pub Demand3 : List ℕ → Reading → Loaded → List ℕ → List Press → Type 0

@@ -10,21 +10,21 @@ use borrow.Author.Tests.{leb-true}
 use Rattle.rules.specs.declared.Mark.{Mark}
 use Rattle.rules.specs.declared.Mark.the-variants.{LM, CD, KI, AR}
 use Rattle.rules.specs.declared.Reading.{Reading}
-use Rattle.rules.specs.Asked.{Asked, passed, refused, _else_, _>>_, isPassed}
-use Rattle.rules.specs.Sheet.{knownMark, memoryAsked}
-use Rattle.rules.proofs.Asked.{first-passed, is-passed}
+use Rattle.rules.specs.Check.{Check, passed, refused, _else_, _>>_, isPassed}
+use Rattle.rules.specs.Sheet.{knownMark, memoryCheck}
+use Rattle.rules.proofs.Check.{first-passed, is-passed}
 use Rattle.sheet.specs.declared.marks.Known.the-variants as Known
 use Rattle.sheet.specs.declared.records.Record.the-variants as Record
 use Rattle.sheet.specs.Records.{markAnswer, recordAnswer}
 
-pub mark-known : (x : Asked Mark) (m : Mark) → Known.Mark m ≡ markAnswer x → x ≡ passed m
+pub mark-known : (x : Check Mark) (m : Mark) → Known.Mark m ≡ markAnswer x → x ≡ passed m
 mark-known (passed k) m e = cc
 mark-known (refused n) m e = let z : _≡_ {A = ℕ} 0 1 = cc in absurd (omega arith)
 
 pub mark-unknown : (n : ℕ) → Known.Nothing ≡ markAnswer (knownMark n) → knownMark n ≡ refused 22
 mark-unknown n e = go (eqb n 0x4C4D) (eqb n 0x4344) (eqb n 0x4B49) (eqb n 0x4152) e
   where
-    of : Bool → Bool → Bool → Bool → Asked Mark
+    of : Bool → Bool → Bool → Bool → Check Mark
     of a b c d = cond a (passed LM) (cond b (passed CD) (cond c (passed KI) (cond d (passed AR) (refused 22))))
 
     go : (a b c d : Bool) → Known.Nothing ≡ markAnswer (of a b c d) → of a b c d ≡ refused 22
@@ -34,22 +34,22 @@ mark-unknown n e = go (eqb n 0x4C4D) (eqb n 0x4344) (eqb n 0x4B49) (eqb n 0x4152
     go false false false true e = let z : _≡_ {A = ℕ} 0 1 = cc in absurd (omega arith)
     go false false false false e = refl
 
-pub record-read : (x : Asked Reading) (p : Reading) → Record.Read p ≡ recordAnswer x → x ≡ passed p
+pub record-read : (x : Check Reading) (p : Reading) → Record.Read p ≡ recordAnswer x → x ≡ passed p
 record-read (passed q) p e = cc
 record-read (refused n) p e = let z : _≡_ {A = ℕ} 0 1 = cc in absurd (omega arith)
 
-pub record-refused : (x : Asked Reading) (k : ℕ) → Record.Refused k ≡ recordAnswer x → x ≡ refused k
+pub record-refused : (x : Check Reading) (k : ℕ) → Record.Refused k ≡ recordAnswer x → x ≡ refused k
 record-refused (passed q) k e = let z : _≡_ {A = ℕ} 0 1 = cc in absurd (omega arith)
 record-refused (refused n) k e = cc
 
 -- ---- the memory
 
 module _ (p : Reading) (slots kinds words : List ℕ) where
-  pub not-enough : isPassed (memoryAsked p slots kinds words) ≡ false → memoryAsked p slots kinds words ≡ refused 26
-  unfolding memoryAsked _else_ _>>_
+  pub not-enough : isPassed (memoryCheck p slots kinds words) ≡ false → memoryCheck p slots kinds words ≡ refused 26
+  unfolding memoryCheck _else_ _>>_
   not-enough e = go (leb (p .«max_locals» + p .«max_stack») (length slots)) (eqb (p .used) 0 || ltb (p .used) (length kinds)) (eqb (length kinds) (length words)) (leb (length kinds) 65536) e
     where
-      of : Bool → Bool → Bool → Bool → Asked (Unit {0})
+      of : Bool → Bool → Bool → Bool → Check (Unit {0})
       of a b c d = (a else 26) >> (b else 26) >> (c else 26) >> (d else 26)
 
       go : (a b c d : Bool) → isPassed (of a b c d) ≡ false → of a b c d ≡ refused 26
@@ -59,9 +59,9 @@ module _ (p : Reading) (slots kinds words : List ℕ) where
       go true true true false e = refl
       go true true true true e = let z : _≡_ {A = ℕ} 0 1 = cc in absurd (omega arith)
 
-  pub enough : isPassed (memoryAsked p slots kinds words) ≡ true → memoryAsked p slots kinds words ≡ passed tt
-  enough e = is-passed (memoryAsked p slots kinds words) e
+  pub enough : isPassed (memoryCheck p slots kinds words) ≡ true → memoryCheck p slots kinds words ≡ passed tt
+  enough e = is-passed (memoryCheck p slots kinds words) e
 
-  pub slots-reach : memoryAsked p slots kinds words ≡ passed tt → p .«max_locals» + p .«max_stack» ≤ length slots
-  unfolding memoryAsked
+  pub slots-reach : memoryCheck p slots kinds words ≡ passed tt → p .«max_locals» + p .«max_stack» ≤ length slots
+  unfolding memoryCheck
   slots-reach e = leb-true _ _ (first-passed _ 26 _ e .0)

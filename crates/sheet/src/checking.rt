@@ -1,13 +1,13 @@
 // The whole sheet, record by record, and the memory that its method asks for.
 use crate::records::Record;
-use crate::records::ask_record;
 use crate::records::body_length;
+use crate::records::check_record;
 use rules::Reading;
 ghost use mathlib.Core.Path.{_≡_};
 ghost use mathlib.Core.Bool.{_||_};
 ghost use lib.ListN.{length};
-ghost use Rattle.rules.specs.Asked.{_=ⁿ_, _<ⁿ_, isPassed};
-ghost use Rattle.rules.specs.Sheet.{unread, sheetAsked, memoryAsked};
+ghost use Rattle.rules.specs.Check.{_=ⁿ_, _<ⁿ_, isPassed};
+ghost use Rattle.rules.specs.Sheet.{unread, sheetCheck, memoryCheck};
 ghost use Rattle.sheet.specs.Records.{recordAnswer};
 
 // Nothing read yet.
@@ -27,13 +27,13 @@ fn unread() -> Reading
 }
 
 // All records, to the end of the bytes: what was read, or the first refusal.
-pub fn check(sheet: &[u8]) -> Record
-    ensures { λ r. ⌜ r ≡ recordAnswer (sheetAsked (now (sheet .entry))) ⌝ }
+pub fn check_sheet(sheet: &[u8]) -> Record
+    ensures { λ r. ⌜ r ≡ recordAnswer (sheetCheck (now (sheet .entry))) ⌝ }
 {
     let mut p = unread();
     let mut at = 0;
     while at < sheet.len() {
-        let record = ask_record(sheet, at, p);
+        let record = check_record(sheet, at, p);
         let Record::Read(q) = record else {
             return record;
         };
@@ -58,7 +58,7 @@ fn reaches(used: u32, kinds: &[u8]) -> bool
 
 // Whether the lent memory reaches.
 pub(crate) fn is_enough(p: Reading, slots: &[u32], kinds: &[u8], words: &[u32]) -> bool
-    ensures { λ r. ⌜ r ≡ isPassed (memoryAsked p (now (slots .entry)) (now (kinds .entry)) (now (words .entry))) ⌝ }
+    ensures { λ r. ⌜ r ≡ isPassed (memoryCheck p (now (slots .entry)) (now (kinds .entry)) (now (words .entry))) ⌝ }
 {
     if slots.len() < p.max_locals as usize + p.max_stack as usize {
         return false;

@@ -5,7 +5,7 @@ mod loading;
 mod marks;
 mod records;
 
-pub use checking::check;
+pub use checking::check_sheet;
 pub use loading::code_of;
 pub use loading::load;
 pub use records::Record;

@@ -1,5 +1,5 @@
 // Loading a sheet: checked whole first, filled after.
-use crate::checking::check;
+use crate::checking::check_sheet;
 use crate::checking::is_enough;
 use crate::filling::fill_pool;
 use crate::filling::fill_slots;
@@ -12,8 +12,8 @@ ghost use mathlib.Core.Bool.{cond};
 ghost use mathlib.Core.List.{[]};
 ghost use Prim.Native.Nat.{_+_};
 ghost use lib.ListN.{length, take, drop};
-ghost use Rattle.rules.specs.Asked.{passed, _≤ⁿ_};
-ghost use Rattle.rules.specs.Sheet.{sheetAsked, loadedState, loadOf, codeOf};
+ghost use Rattle.rules.specs.Check.{passed, _≤ⁿ_};
+ghost use Rattle.rules.specs.Sheet.{sheetCheck, loadedState, loadOf, codeOf};
 ghost use Rattle.sheet.specs.Filled.{loaded};
 
 // The state of a method that is loaded.
@@ -37,7 +37,7 @@ fn load_read(
     words: &mut [u32],
     p: Reading,
 ) -> Load
-    requires { ⌜ sheetAsked (now sheet) ≡ passed p ⌝ }
+    requires { ⌜ sheetCheck (now sheet) ≡ passed p ⌝ }
     ensures { λ r. ⌜ loaded r (now (slots .exit)) (now (kinds .exit)) (now (words .exit)) ≡ loadOf (now (sheet .entry)) (now (slots .entry)) (now (kinds .entry)) (now (words .entry)) ⌝ }
 {
     if !is_enough(p, slots, kinds, words) {
@@ -56,7 +56,7 @@ fn load_read(
 pub fn load(sheet: &[u8], slots: &mut [u32], kinds: &mut [u8], words: &mut [u32]) -> Load
     ensures { λ r. ⌜ loaded r (now (slots .exit)) (now (kinds .exit)) (now (words .exit)) ≡ loadOf (now (sheet .entry)) (now (slots .entry)) (now (kinds .entry)) (now (words .entry)) ⌝ }
 {
-    let checked = check(sheet);
+    let checked = check_sheet(sheet);
     match checked {
         Record::Refused(n) => Load::Refused(n),
         Record::Read(p) => load_read(sheet, slots, kinds, words, p),

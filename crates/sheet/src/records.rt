@@ -12,7 +12,7 @@ ghost use mathlib.Core.Path.{_≡_};
 ghost use Prim.Native.Nat.{_≤_};
 ghost use lib.ListN.{length};
 ghost use Rattle.rules.specs.declared.Mark.the-variants.{KI, AR};
-ghost use Rattle.rules.specs.Sheet.{bodyLength, lastIndex, withLimits, withCode, withConstant, withArguments, contentsAsked, recordAsked};
+ghost use Rattle.rules.specs.Sheet.{bodyLength, lastIndex, withLimits, withCode, withConstant, withArguments, contentsCheck, recordCheck};
 ghost use Rattle.sheet.specs.Records.{recordAnswer};
 
 // What has been read with a record, or the number of its refusal.
@@ -107,9 +107,9 @@ fn last_index(sheet: &[u8], at: usize) -> u32
 }
 
 // KI: its tag, and its indices above all used.
-fn ask_constant(sheet: &[u8], at: usize, p: Reading) -> Record
+fn check_constant(sheet: &[u8], at: usize, p: Reading) -> Record
     requires { ⌜ at ≤ length (now sheet) ⌝ }
-    ensures { λ r. ⌜ r ≡ recordAnswer (contentsAsked (now (sheet .entry)) at p KI) ⌝ }
+    ensures { λ r. ⌜ r ≡ recordAnswer (contentsCheck (now (sheet .entry)) at p KI) ⌝ }
 {
     let body = at + 4;
     let tag = read_code_u8(sheet, body + 2);
@@ -129,9 +129,9 @@ fn ask_constant(sheet: &[u8], at: usize, p: Reading) -> Record
 }
 
 // AR: at most as many words as there are locals.
-fn ask_arguments(sheet: &[u8], at: usize, p: Reading) -> Record
+fn check_arguments(sheet: &[u8], at: usize, p: Reading) -> Record
     requires { ⌜ at ≤ length (now sheet) ⌝ }
-    ensures { λ r. ⌜ r ≡ recordAnswer (contentsAsked (now (sheet .entry)) at p AR) ⌝ }
+    ensures { λ r. ⌜ r ≡ recordAnswer (contentsCheck (now (sheet .entry)) at p AR) ⌝ }
 {
     let count = body_length(sheet, at) / 4;
     if count > p.max_locals {
@@ -141,9 +141,9 @@ fn ask_arguments(sheet: &[u8], at: usize, p: Reading) -> Record
 }
 
 // What is asked of a record's contents.
-fn ask_contents(sheet: &[u8], at: usize, p: Reading, mark: Mark) -> Record
+fn check_contents(sheet: &[u8], at: usize, p: Reading, mark: Mark) -> Record
     requires { ⌜ at ≤ length (now sheet) ⌝ }
-    ensures { λ r. ⌜ r ≡ recordAnswer (contentsAsked (now (sheet .entry)) at p mark) ⌝ }
+    ensures { λ r. ⌜ r ≡ recordAnswer (contentsCheck (now (sheet .entry)) at p mark) ⌝ }
 {
     let body = at + 4;
     match mark {
@@ -156,15 +156,15 @@ fn ask_contents(sheet: &[u8], at: usize, p: Reading, mark: Mark) -> Record
             let size = body_length(sheet, at);
             Record::Read(with_code(p, body, size as usize))
         }
-        Mark::KI => ask_constant(sheet, at, p),
-        Mark::AR => ask_arguments(sheet, at, p),
+        Mark::KI => check_constant(sheet, at, p),
+        Mark::AR => check_arguments(sheet, at, p),
     }
 }
 
 // The record at an offset, after what has been read before it.
-pub(crate) fn ask_record(sheet: &[u8], at: usize, p: Reading) -> Record
+pub(crate) fn check_record(sheet: &[u8], at: usize, p: Reading) -> Record
     requires { ⌜ at ≤ length (now sheet) ⌝ }
-    ensures { λ r. ⌜ r ≡ recordAnswer (recordAsked (now (sheet .entry)) at p) ⌝ }
+    ensures { λ r. ⌜ r ≡ recordAnswer (recordCheck (now (sheet .entry)) at p) ⌝ }
 {
     if sheet.len() < at + 4 {
         return Record::Refused(21);
@@ -183,5 +183,5 @@ pub(crate) fn ask_record(sheet: &[u8], at: usize, p: Reading) -> Record
     if !right_length(mark, size) {
         return Record::Refused(24);
     }
-    ask_contents(sheet, at, p, mark)
+    check_contents(sheet, at, p, mark)
 }

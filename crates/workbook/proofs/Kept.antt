@@ -4,10 +4,10 @@ use mathlib.Core.Path.{_≡_, ap}
 use mathlib.Core.List.{List, [], _∷_}
 use native.Mathlib.Omega.{arith}
 use lib.ListN.{length, getD}
-use Rattle.rules.specs.Asked.{passed, refused}
-use Rattle.rules.specs.Questions.{Lent, frameAsked}
+use Rattle.rules.specs.Check.{passed, refused}
+use Rattle.rules.specs.Questions.{Method, frameCheck}
 use Rattle.rules.specs.Run.{runOf}
-use Rattle.workbook.specs.StateWords.{stateIn, withState, lengthsAsked, sizesAsked}
+use Rattle.workbook.specs.StateWords.{stateIn, withState, lengthsCheck, sizesCheck}
 use Rattle.workbook.specs.Calls.{withSteps, runCall}
 
 pub words-kept : (ws : List ℕ) → 6 ≤ length ws → getD ws 4 0 < 2 ^ 32 → withState ws (stateIn ws) ≡ ws
@@ -22,8 +22,8 @@ words-kept (a ∷ b ∷ c ∷ d ∷ e ∷ g ∷ rest) h f =
     let high : (e + g * 2 ^ 32) / 2 ^ 32 ≡ g = omega (arith, f) in
     rw (low, high)
 
-module _ (l : Lent) (slots state answer : List ℕ) (budget : ℕ) (six : 6 ≤ length state) (fits : getD state 4 0 < 2 ^ 32) where
-  pub refused-run : (k : ℕ) → lengthsAsked state answer 4 ≡ passed tt → sizesAsked state ≡ passed tt → frameAsked l (stateIn state) slots ≡ refused k
+module _ (l : Method) (slots state answer : List ℕ) (budget : ℕ) (six : 6 ≤ length state) (fits : getD state 4 0 < 2 ^ 32) where
+  pub refused-run : (k : ℕ) → lengthsCheck state answer 4 ≡ passed tt → sizesCheck state ≡ passed tt → frameCheck l (stateIn state) slots ≡ refused k
       → runCall l slots state answer budget ≡ record { number = k; slots = slots; log = []; state = state; answer = withSteps answer 0 0 0 }
   unfolding runCall runOf
   refused-run k lengths sizes e =

@@ -1,4 +1,4 @@
-mod Asking
+mod Checks
 mod Kept
 mod LoadedWords
 mod Made

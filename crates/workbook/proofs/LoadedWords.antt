@@ -8,20 +8,20 @@ use Rattle.rules.specs.declared.State.{State}
 use Rattle.rules.specs.declared.Reading.{Reading}
 use Rattle.rules.specs.declared.Load.{Load}
 use Rattle.rules.specs.declared.Load.the-variants as Load
-use Rattle.rules.specs.Asked.{Asked, passed, refused}
+use Rattle.rules.specs.Check.{Check, passed, refused}
 use Rattle.rules.specs.Fetch.{u8}
-use Rattle.rules.specs.Sheet.{sheetAsked, Loaded, loadOf}
+use Rattle.rules.specs.Sheet.{sheetCheck, Loaded, loadOf}
 use Rattle.rules.proofs.Loaded.{accepted-where}
 use Rattle.sheet.specs.declared.records.Record.the-variants as Record
 use Rattle.sheet.specs.Records.{recordAnswer}
-use Rattle.workbook.specs.StateWords.{withState, lengthsAsked}
+use Rattle.workbook.specs.StateWords.{withState, lengthsCheck}
 use Rattle.workbook.specs.Calls.{shortNumber, loadCall}
 
-pub number-read : (x : Asked Reading) (p : Reading) → Record.Read p ≡ recordAnswer x → 26 ≡ shortNumber x
+pub number-read : (x : Check Reading) (p : Reading) → Record.Read p ≡ recordAnswer x → 26 ≡ shortNumber x
 number-read (passed q) p e = refl
 number-read (refused n) p e = let z : _≡_ {A = ℕ} 0 1 = cc in absurd (omega arith)
 
-pub number-refused : (x : Asked Reading) (n : ℕ) → Record.Refused n ≡ recordAnswer x → n ≡ shortNumber x
+pub number-refused : (x : Check Reading) (n : ℕ) → Record.Refused n ≡ recordAnswer x → n ≡ shortNumber x
 number-refused (passed q) n e = let z : _≡_ {A = ℕ} 0 1 = cc in absurd (omega arith)
 number-refused (refused k) n e = cc
 
@@ -34,12 +34,12 @@ module _ (sheet slots kinds words : List ℕ) where
   code-lies bytes r slots′ kinds′ words′ e s at n f = accepted-where sheet slots kinds words bytes s at n (sym (ap (λ (m : Loaded). m .load) e) ∙ f)
 
   module _ (state answer : List ℕ) where
-    pub load-short : lengthsAsked state answer 4 ≡ refused 1 → (number : ℕ) → number ≡ shortNumber (sheetAsked sheet)
+    pub load-short : lengthsCheck state answer 4 ≡ refused 1 → (number : ℕ) → number ≡ shortNumber (sheetCheck sheet)
         → record { number = number; slots = slots; kinds = kinds; words = words; state = state; answer = answer } ≡ loadCall sheet slots kinds words state answer
     unfolding loadCall
     load-short e number f = rw (e, f)
 
-    module _ (lengths : lengthsAsked state answer 4 ≡ passed tt) (r : Load) (slots′ kinds′ words′ : List ℕ) (gave : Gave r slots′ kinds′ words′) where
+    module _ (lengths : lengthsCheck state answer 4 ≡ passed tt) (r : Load) (slots′ kinds′ words′ : List ℕ) (gave : Gave r slots′ kinds′ words′) where
       pub load-refused : (k : ℕ) → r ≡ Load.Refused k
           → record { number = k; slots = slots′; kinds = kinds′; words = words′; state = state; answer = answer } ≡ loadCall sheet slots kinds words state answer
       unfolding loadCall

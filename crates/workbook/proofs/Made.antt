@@ -9,19 +9,19 @@ use Rattle.rules.specs.declared.Decision.{Decision}
 use Rattle.rules.specs.declared.Pressed.{Pressed}
 use Rattle.rules.specs.declared.Answer.{Answer}
 use Rattle.rules.specs.declared.End.{End}
-use Rattle.rules.specs.Asked.{passed, refused, _else_, _>>_}
-use Rattle.rules.specs.Questions.{Lent}
+use Rattle.rules.specs.Check.{passed, refused, _else_, _>>_}
+use Rattle.rules.specs.Questions.{Method}
 use Rattle.rules.specs.Step.{stepOf}
 use Rattle.rules.specs.Run.{runOf}
 use Rattle.rules.specs.History.{forwardOf, backOf}
 use Rattle.rules.specs.Answers.{endAnswer, pressedAnswer}
-use Rattle.workbook.specs.StateWords.{stateIn, withState, lengthsAsked, sizesAsked}
+use Rattle.workbook.specs.StateWords.{stateIn, withState, lengthsCheck, sizesCheck}
 use Rattle.workbook.specs.Calls.{stateAfter, answerAfter, unchanged, pressedBy, stepCall, forwardCall, backCall, withSteps, runCall}
 
 -- a press that is made: the library's function gave s and a and left the slots and the log, and s and a were left in the state and the answer
-module _ (l : Lent) (slots log state answer : List ℕ) (sizes : sizesAsked state ≡ passed tt) (s : State) (a : Pressed) (number : ℕ) (after log′ state′ answer′ : List ℕ)
+module _ (l : Method) (slots log state answer : List ℕ) (sizes : sizesCheck state ≡ passed tt) (s : State) (a : Pressed) (number : ℕ) (after log′ state′ answer′ : List ℕ)
     (numbered : number ≡ pressedAnswer a .number) (stated : state′ ≡ stateAfter state s a) where
-  module _ (lengths : lengthsAsked state answer 4 ≡ passed tt) (answered : answer′ ≡ answerAfter answer a) where
+  module _ (lengths : lengthsCheck state answer 4 ≡ passed tt) (answered : answer′ ≡ answerAfter answer a) where
     pub step-made : (d : Decision) → record { state = s; decision = d; slots = after } ≡ stepOf l (stateIn state) slots → a ≡ pressedBy d
         → record { number = number; slots = after; log = []; state = state′; answer = answer′ } ≡ stepCall l slots state answer
     unfolding stepCall _>>_
@@ -38,28 +38,28 @@ module _ (l : Lent) (slots log state answer : List ℕ) (sizes : sizesAsked stat
   back-made h e = rw (le-leb 6 (length state) h, sizes, ← e, numbered, stated)
 
 -- a back that is not made
-module _ (l : Lent) (slots log state : List ℕ) where
+module _ (l : Method) (slots log state : List ℕ) where
   pub back-short : length state < 6 → unchanged slots log state [] 1 ≡ backCall l slots log state
   unfolding backCall _else_ _>>_
   back-short h = rw (lt-leb 6 (length state) h)
 
-  pub back-sizes : 6 ≤ length state → sizesAsked state ≡ refused 1 → unchanged slots log state [] 1 ≡ backCall l slots log state
+  pub back-sizes : 6 ≤ length state → sizesCheck state ≡ refused 1 → unchanged slots log state [] 1 ≡ backCall l slots log state
   unfolding backCall _else_ _>>_
   back-sizes h e = rw (le-leb 6 (length state) h, e)
 
 -- a run
-module _ (l : Lent) (slots state answer : List ℕ) (budget : ℕ) where
-  pub run-short : lengthsAsked state answer 4 ≡ refused 1 → unchanged slots [] state answer 1 ≡ runCall l slots state answer budget
+module _ (l : Method) (slots state answer : List ℕ) (budget : ℕ) where
+  pub run-short : lengthsCheck state answer 4 ≡ refused 1 → unchanged slots [] state answer 1 ≡ runCall l slots state answer budget
   unfolding runCall
   run-short e = rw e
 
-  module _ (lengths : lengthsAsked state answer 4 ≡ passed tt) where
-    pub run-sizes : sizesAsked state ≡ refused 1 → (answer′ : List ℕ) → answer′ ≡ withSteps answer 0 0 0
+  module _ (lengths : lengthsCheck state answer 4 ≡ passed tt) where
+    pub run-sizes : sizesCheck state ≡ refused 1 → (answer′ : List ℕ) → answer′ ≡ withSteps answer 0 0 0
         → record { number = 1; slots = slots; log = []; state = state; answer = answer′ } ≡ runCall l slots state answer budget
     unfolding runCall
     run-sizes e answer′ f = rw (lengths, e, f)
 
-    pub run-made : sizesAsked state ≡ passed tt → (s : State) (steps : ℕ) (end : End) (after state′ answer′ : List ℕ) (e : Answer)
+    pub run-made : sizesCheck state ≡ passed tt → (s : State) (steps : ℕ) (end : End) (after state′ answer′ : List ℕ) (e : Answer)
         → record { state = s; steps = steps; end = end; slots = after } ≡ runOf l budget (stateIn state) slots → e ≡ endAnswer end
         → state′ ≡ withState state s → answer′ ≡ withSteps answer (e .low) (e .high) steps
         → record { number = e .number; slots = after; log = []; state = state′; answer = answer′ } ≡ runCall l slots state answer budget

@@ -9,21 +9,21 @@ use lib.Seq.{paste}
 use borrow.Author.Tests.{le-leb, lt-leb}
 use Rattle.rules.specs.declared.State.{State}
 use Rattle.rules.specs.declared.Pressed.the-variants.{Refused}
-use Rattle.rules.specs.Asked.{passed, refused, _else_, _>>_}
-use Rattle.rules.specs.Questions.{Lent, frameAsked}
+use Rattle.rules.specs.Check.{passed, refused, _else_, _>>_}
+use Rattle.rules.specs.Questions.{Method, frameCheck}
 use Rattle.rules.specs.History.{kept}
 use Rattle.rules.specs.Walk.{Press, forward, back, pressOf, walkOf}
 use Rattle.rules.specs.Presses.{pressOfByte, pressesOfBytes, answersWords, Replayed, replayed, replayOf}
 use Rattle.rules.proofs.Step.{refused-by-frame}
 use Rattle.rules.proofs.History.{forward-by, back-frame, back-by}
 use Rattle.rules.proofs.Replay.{replay-made}
-use Rattle.workbook.specs.StateWords.{stateIn, withState, sizesAsked}
+use Rattle.workbook.specs.StateWords.{stateIn, withState, sizesCheck}
 use Rattle.workbook.specs.Calls.{unchanged, allRefused, pressesCall}
 
 -- ---- question 1 says no of a frame that its slots do not hold
 
-pub no-room : (l : Lent) (s : State) (slots : List ℕ) → length slots < s .«max_locals» + s .«max_stack» → frameAsked l s slots ≡ refused 1
-unfolding frameAsked _else_ _>>_
+pub no-room : (l : Method) (s : State) (slots : List ℕ) → length slots < s .«max_locals» + s .«max_stack» → frameCheck l s slots ≡ refused 1
+unfolding frameCheck _else_ _>>_
 no-room l s slots h = rw (lt-leb (s .«max_locals» + s .«max_stack») (length slots) h) (go (eqb (length (l .kinds)) (length (l .words))) (leb (length (l .kinds)) 65536))
   where
     go : (a b : Bool) → ((a else 1) >> (b else 1) >> (false else 1)) ≡ refused 1
@@ -33,7 +33,7 @@ no-room l s slots h = rw (lt-leb (s .«max_locals» + s .«max_stack») (length 
 
 -- ---- so every press is answered with 1, and nothing changes
 
-module _ (l : Lent) (s : State) (slots : List ℕ) (no : frameAsked l s slots ≡ refused 1) where
+module _ (l : Method) (s : State) (slots : List ℕ) (no : frameCheck l s slots ≡ refused 1) where
   press-refused : (p : Press) (log : List ℕ) → pressOf l p s slots log ≡ kept s slots log (Refused 1)
   unfolding pressOf
   press-refused forward log = forward-by s slots log l _ (refused-by-frame l s slots 1 no)
@@ -53,7 +53,7 @@ module _ (l : Lent) (s : State) (slots : List ℕ) (no : frameAsked l s slots �
 
 -- ---- the call
 
-module _ (l : Lent) (slots log state bytes answers : List ℕ) where
+module _ (l : Method) (slots log state bytes answers : List ℕ) where
   pub few-answers : length answers < 3 * length bytes → unchanged slots log state answers 1 ≡ pressesCall l slots log state bytes answers
   unfolding pressesCall _else_ _>>_
   few-answers h = rw (lt-leb (3 * length bytes) (length answers) h)
@@ -64,12 +64,12 @@ module _ (l : Lent) (slots log state bytes answers : List ℕ) where
     few-state h = rw (le-leb (3 * length bytes) (length answers) room, lt-leb 6 (length state) h)
 
     module _ (six : 6 ≤ length state) where
-      pub no-state : sizesAsked state ≡ refused 1 → (log′ answers′ : List ℕ) → log′ ≡ log → answers′ ≡ paste answers 0 (answersWords (allRefused bytes)) (3 * length bytes)
+      pub no-state : sizesCheck state ≡ refused 1 → (log′ answers′ : List ℕ) → log′ ≡ log → answers′ ≡ paste answers 0 (answersWords (allRefused bytes)) (3 * length bytes)
           → record { number = 0; slots = slots; log = log′; state = state; answer = answers′ } ≡ pressesCall l slots log state bytes answers
       unfolding pressesCall _else_ _>>_
       no-state e log′ answers′ f g = rw (le-leb (3 * length bytes) (length answers) room, le-leb 6 (length state) six, e, f, g)
 
-      pub list-made : sizesAsked state ≡ passed tt → (number : ℕ) (s : State) (after log′ state′ answers′ : List ℕ)
+      pub list-made : sizesCheck state ≡ passed tt → (number : ℕ) (s : State) (after log′ state′ answers′ : List ℕ)
           → record { number = number; state = s; slots = after; log = log′; answers = answers′ } ≡ replayOf l bytes (stateIn state) slots log answers → state′ ≡ withState state s
           → record { number = 0; slots = after; log = log′; state = state′; answer = answers′ } ≡ pressesCall l slots log state bytes answers
       unfolding pressesCall _else_ _>>_

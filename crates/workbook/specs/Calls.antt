@@ -12,15 +12,15 @@ use Rattle.rules.specs.declared.Pressed.the-variants.{Granted, Return, Throw, R
 use Rattle.rules.specs.declared.Reading.{Reading}
 use Rattle.rules.specs.declared.Load.{Load}
 use Rattle.rules.specs.declared.Load.the-variants as Load
-use Rattle.rules.specs.Asked.{Asked, passed, refused, _else_, _>>_, _≤ⁿ_}
-use Rattle.rules.specs.Questions.{Lent}
+use Rattle.rules.specs.Check.{Check, passed, refused, _else_, _>>_, _≤ⁿ_}
+use Rattle.rules.specs.Questions.{Method}
 use Rattle.rules.specs.Step.{Stepped, stepOf}
 use Rattle.rules.specs.Run.{Ran, runOf}
-use Rattle.rules.specs.Sheet.{sheetAsked, Loaded, loadOf}
+use Rattle.rules.specs.Sheet.{sheetCheck, Loaded, loadOf}
 use Rattle.rules.specs.History.{Out, forwardOf, backOf}
 use Rattle.rules.specs.Answers.{valueAnswer, endAnswer, pressedAnswer}
-use Rattle.rules.specs.Presses.{answersWords, answersAsked, Replayed, replayOf}
-use Rattle.workbook.specs.StateWords.{stateIn, withState, lengthsAsked, sizesAsked}
+use Rattle.rules.specs.Presses.{answersWords, answersCheck, Replayed, replayOf}
+use Rattle.workbook.specs.StateWords.{stateIn, withState, lengthsCheck, sizesCheck}
 
 -- ---- step, forward and back
 
@@ -65,30 +65,30 @@ pressedBy (Decision.Refused n) = Refused n
 abbrev pub stepOut : Stepped → Out
 stepOut r = record { state = r .state; answer = pressedBy (r .decision); slots = r .slots; log = [] }
 
-abbrev pub callBy : List ℕ → List ℕ → List ℕ → List ℕ → Out → Asked (Unit {0}) → Called
+abbrev pub callBy : List ℕ → List ℕ → List ℕ → List ℕ → Out → Check (Unit {0}) → Called
 callBy slots log state answer o (passed t) = called state answer o
 callBy slots log state answer o (refused n) = unchanged slots log state answer n
 
-unfoldable pub stepCall : Lent → List ℕ → List ℕ → List ℕ → Called
+unfoldable pub stepCall : Method → List ℕ → List ℕ → List ℕ → Called
 stepCall l slots state answer = callBy slots [] state answer (stepOut (stepOf l (stateIn state) slots)) (do
-  lengthsAsked state answer 4
-  sizesAsked state)
+  lengthsCheck state answer 4
+  sizesCheck state)
 
-unfoldable pub forwardCall : Lent → List ℕ → List ℕ → List ℕ → List ℕ → Called
+unfoldable pub forwardCall : Method → List ℕ → List ℕ → List ℕ → List ℕ → Called
 forwardCall l slots log state answer = callBy slots log state answer (forwardOf l (stateIn state) slots log) (do
-  lengthsAsked state answer 4
-  sizesAsked state)
+  lengthsCheck state answer 4
+  sizesCheck state)
 
 -- back has no answer words
-abbrev pub backBy : List ℕ → List ℕ → List ℕ → Out → Asked (Unit {0}) → Called
+abbrev pub backBy : List ℕ → List ℕ → List ℕ → Out → Check (Unit {0}) → Called
 backBy slots log state o (passed t) =
     record { number = pressedAnswer (o .answer) .number; slots = o .slots; log = o .log; state = stateAfter state (o .state) (o .answer); answer = [] }
 backBy slots log state o (refused n) = unchanged slots log state [] n
 
-unfoldable pub backCall : Lent → List ℕ → List ℕ → List ℕ → Called
+unfoldable pub backCall : Method → List ℕ → List ℕ → List ℕ → Called
 backCall l slots log state = backBy slots log state (backOf l (stateIn state) slots log) (do
   6 ≤ⁿ length state else 1
-  sizesAsked state)
+  sizesCheck state)
 
 -- ---- run
 
@@ -102,16 +102,16 @@ ranCall state answer r =
     record { number = e .number; slots = r .slots; log = []; state = withState state (r .state); answer = withSteps answer (e .low) (e .high) (r .steps) }
 
 -- sizes that no state has are question 1's no: the four answer words are 0
-abbrev pub runBy : List ℕ → List ℕ → List ℕ → Ran → Asked (Unit {0}) → Called
+abbrev pub runBy : List ℕ → List ℕ → List ℕ → Ran → Check (Unit {0}) → Called
 runBy slots state answer r (passed t) = ranCall state answer r
 runBy slots state answer r (refused n) = unchanged slots [] state (withSteps answer 0 0 0) n
 
-abbrev pub runFor : List ℕ → List ℕ → List ℕ → Ran → Asked (Unit {0}) → Called
-runFor slots state answer r (passed t) = runBy slots state answer r (sizesAsked state)
+abbrev pub runFor : List ℕ → List ℕ → List ℕ → Ran → Check (Unit {0}) → Called
+runFor slots state answer r (passed t) = runBy slots state answer r (sizesCheck state)
 runFor slots state answer r (refused n) = unchanged slots [] state answer n
 
-unfoldable pub runCall : Lent → List ℕ → List ℕ → List ℕ → ℕ → Called
-runCall l slots state answer budget = runFor slots state answer (runOf l budget (stateIn state) slots) (lengthsAsked state answer 4)
+unfoldable pub runCall : Method → List ℕ → List ℕ → List ℕ → ℕ → Called
+runCall l slots state answer budget = runFor slots state answer (runOf l budget (stateIn state) slots) (lengthsCheck state answer 4)
 
 -- ---- the list of presses
 
@@ -124,18 +124,18 @@ abbrev pub pressesMade : List ℕ → Replayed → Called
 pressesMade state r = record { number = 0; slots = r .slots; log = r .log; state = withState state (r .state); answer = r .answers }
 
 -- sizes that no state has are question 1's no, at each press
-abbrev pub pressesBy : List ℕ → List ℕ → List ℕ → List ℕ → List ℕ → Replayed → Asked (Unit {0}) → Called
+abbrev pub pressesBy : List ℕ → List ℕ → List ℕ → List ℕ → List ℕ → Replayed → Check (Unit {0}) → Called
 pressesBy bytes slots log state answers r (passed t) = pressesMade state r
 pressesBy bytes slots log state answers r (refused n) = unchanged slots log state (paste answers 0 (answersWords (allRefused bytes)) (3 * length bytes)) 0
 
-abbrev pub pressesFor : List ℕ → List ℕ → List ℕ → List ℕ → List ℕ → Replayed → Asked (Unit {0}) → Called
-pressesFor bytes slots log state answers r (passed t) = pressesBy bytes slots log state answers r (sizesAsked state)
+abbrev pub pressesFor : List ℕ → List ℕ → List ℕ → List ℕ → List ℕ → Replayed → Check (Unit {0}) → Called
+pressesFor bytes slots log state answers r (passed t) = pressesBy bytes slots log state answers r (sizesCheck state)
 pressesFor bytes slots log state answers r (refused n) = unchanged slots log state answers n
 
-unfoldable pub pressesCall : Lent → List ℕ → List ℕ → List ℕ → List ℕ → List ℕ → Called
+unfoldable pub pressesCall : Method → List ℕ → List ℕ → List ℕ → List ℕ → List ℕ → Called
 pressesCall l slots log state bytes answers =
     pressesFor bytes slots log state answers (replayOf l bytes (stateIn state) slots log answers) (do
-      answersAsked (length bytes) (length answers)
+      answersCheck (length bytes) (length answers)
       6 ≤ⁿ length state else 1)
 
 -- ---- load
@@ -155,14 +155,14 @@ loadBy state answer m (Load.Accepted s at n) =
 loadBy state answer m (Load.Refused k) = record { number = k; slots = m .slots; kinds = m .kinds; words = m .words; state = state; answer = answer }
 
 -- too few state or answer words belong to question 26: the sheet's own numbers come first
-abbrev pub shortNumber : Asked Reading → ℕ
+abbrev pub shortNumber : Check Reading → ℕ
 shortNumber (passed p) = 26
 shortNumber (refused n) = n
 
-abbrev pub loadFor : List ℕ → List ℕ → List ℕ → List ℕ → List ℕ → List ℕ → Asked (Unit {0}) → LoadCalled
+abbrev pub loadFor : List ℕ → List ℕ → List ℕ → List ℕ → List ℕ → List ℕ → Check (Unit {0}) → LoadCalled
 loadFor sheet slots kinds words state answer (passed t) = let m = loadOf sheet slots kinds words in loadBy state answer m (m .load)
 loadFor sheet slots kinds words state answer (refused n) =
-    record { number = shortNumber (sheetAsked sheet); slots = slots; kinds = kinds; words = words; state = state; answer = answer }
+    record { number = shortNumber (sheetCheck sheet); slots = slots; kinds = kinds; words = words; state = state; answer = answer }
 
 unfoldable pub loadCall : List ℕ → List ℕ → List ℕ → List ℕ → List ℕ → List ℕ → LoadCalled
-loadCall sheet slots kinds words state answer = loadFor sheet slots kinds words state answer (lengthsAsked state answer 4)
+loadCall sheet slots kinds words state answer = loadFor sheet slots kinds words state answer (lengthsCheck state answer 4)

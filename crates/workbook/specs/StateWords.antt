@@ -4,7 +4,7 @@ use mathlib.Core.List.{List, [], _∷_}
 use lib.ListN.{length, getD}
 use lib.Seq.{paste}
 use Rattle.rules.specs.declared.State.{State}
-use Rattle.rules.specs.Asked.{Asked, _else_, _>>_, _≤ⁿ_}
+use Rattle.rules.specs.Check.{Check, _else_, _>>_, _≤ⁿ_}
 
 -- max_stack, max_locals, pc, depth, count's low word, count's high word
 abbrev pub stateWords : State → List ℕ
@@ -19,13 +19,13 @@ abbrev pub withState : List ℕ → State → List ℕ
 withState ws s = paste ws 0 (stateWords s) 6
 
 -- are there six state words, and n answer words? 1
-unfoldable pub lengthsAsked : List ℕ → List ℕ → ℕ → Asked (Unit {0})
-lengthsAsked state answer n = do
+unfoldable pub lengthsCheck : List ℕ → List ℕ → ℕ → Check (Unit {0})
+lengthsCheck state answer n = do
   6 ≤ⁿ length state else 1
   n ≤ⁿ length answer else 1
 
 -- a max_stack or max_locals above 65,535 is no state's: 1
-unfoldable pub sizesAsked : List ℕ → Asked (Unit {0})
-sizesAsked ws = do
+unfoldable pub sizesCheck : List ℕ → Check (Unit {0})
+sizesCheck ws = do
   getD ws 0 0 ≤ⁿ 65535 else 1
   getD ws 1 0 ≤ⁿ 65535 else 1

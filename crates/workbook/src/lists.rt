@@ -8,7 +8,7 @@ ghost use mathlib.Core.Path.{_≡_};
 ghost use Prim.Native.Nat.{_*_, _≤_};
 ghost use lib.ListN.{length};
 ghost use lib.Seq.{paste};
-ghost use Rattle.rules.specs.Questions.{lent};
+ghost use Rattle.rules.specs.Questions.{method};
 ghost use Rattle.rules.specs.Presses.{answersWords};
 ghost use Rattle.workbook.specs.Calls.{allRefused, pressesCall};
 
@@ -48,7 +48,7 @@ pub extern "C" fn workbook_presses(
     bytes: &[u8],
     answers: &mut [u32],
 ) -> u32
-    ensures { λ r. ⌜ record { number = r; slots = now (slots .exit); log = now (log .exit); state = now (state .exit); answer = now (answers .exit) } ≡ pressesCall (lent (now (code .entry)) (now (kinds .entry)) (now (words .entry))) (now (slots .entry)) (now (log .entry)) (now (state .entry)) (now (bytes .entry)) (now (answers .entry)) ⌝ }
+    ensures { λ r. ⌜ record { number = r; slots = now (slots .exit); log = now (log .exit); state = now (state .exit); answer = now (answers .exit) } ≡ pressesCall (method (now (code .entry)) (now (kinds .entry)) (now (words .entry))) (now (slots .entry)) (now (log .entry)) (now (state .entry)) (now (bytes .entry)) (now (answers .entry)) ⌝ }
 {
     if answers.len() / 3 < bytes.len() {
         return 1;

@@ -4,21 +4,21 @@ use crate::state_words::write_state;
 use frame::write_words;
 use rules::Load;
 use sheet::Record;
-use sheet::check;
+use sheet::check_sheet;
 use sheet::load;
 ghost use mathlib.Core.Path.{_≡_};
 ghost use mathlib.Core.List.{[], _∷_};
 ghost use Prim.Native.Nat.{_≤_};
 ghost use lib.ListN.{length};
 ghost use lib.Seq.{paste};
-ghost use Rattle.rules.specs.Sheet.{sheetAsked};
+ghost use Rattle.rules.specs.Sheet.{sheetCheck};
 ghost use Rattle.workbook.specs.Calls.{shortNumber, loadCall};
 
 // The number of a load with too few state or answer words: the sheet's own, or else question 26's.
 fn short_number(sheet: &[u8]) -> u32
-    ensures { λ r. ⌜ r ≡ shortNumber (sheetAsked (now (sheet .entry))) ⌝ }
+    ensures { λ r. ⌜ r ≡ shortNumber (sheetCheck (now (sheet .entry))) ⌝ }
 {
-    let checked = check(sheet);
+    let checked = check_sheet(sheet);
     match checked {
         Record::Read(_) => 26,
         Record::Refused(n) => n,

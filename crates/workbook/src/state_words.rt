@@ -7,12 +7,12 @@ use rules::State;
 ghost use mathlib.Core.Path.{_≡_};
 ghost use Prim.Native.Nat.{_≤_};
 ghost use lib.ListN.{length, getD};
-ghost use Rattle.rules.specs.Asked.{isPassed};
-ghost use Rattle.workbook.specs.StateWords.{stateIn, withState, lengthsAsked, sizesAsked};
+ghost use Rattle.rules.specs.Check.{isPassed};
+ghost use Rattle.workbook.specs.StateWords.{stateIn, withState, lengthsCheck, sizesCheck};
 
 // Whether there are six state words and some answer words.
 pub(crate) fn are_lent(state: &[u32], answer: &[u32], n: usize) -> bool
-    ensures { λ r. ⌜ r ≡ isPassed (lengthsAsked (now (state .entry)) (now (answer .entry)) n) ⌝ }
+    ensures { λ r. ⌜ r ≡ isPassed (lengthsCheck (now (state .entry)) (now (answer .entry)) n) ⌝ }
 {
     if state.len() < 6 {
         return false;
@@ -23,7 +23,7 @@ pub(crate) fn are_lent(state: &[u32], answer: &[u32], n: usize) -> bool
 // Whether the two sizes are at most 65,535.
 pub(crate) fn sizes_fit(state: &[u32]) -> bool
     requires { ⌜ 6 ≤ length (now state) ⌝ }
-    ensures { λ r. ⌜ r ≡ isPassed (sizesAsked (now (state .entry))) ⌝ }
+    ensures { λ r. ⌜ r ≡ isPassed (sizesCheck (now (state .entry))) ⌝ }
 {
     if state[0] > 65535 {
         return false;

@@ -10,7 +10,7 @@ use history::forward;
 use interpreter::step;
 ghost use mathlib.Core.Path.{_≡_};
 ghost use mathlib.Core.List.{[]};
-ghost use Rattle.rules.specs.Questions.{lent};
+ghost use Rattle.rules.specs.Questions.{method};
 ghost use Rattle.workbook.specs.Calls.{stepCall, forwardCall, backCall};
 
 // A step without history.
@@ -23,7 +23,7 @@ pub extern "C" fn workbook_step(
     state: &mut [u32],
     answer: &mut [u32],
 ) -> u32
-    ensures { λ r. ⌜ record { number = r; slots = now (slots .exit); log = []; state = now (state .exit); answer = now (answer .exit) } ≡ stepCall (lent (now (code .entry)) (now (kinds .entry)) (now (words .entry))) (now (slots .entry)) (now (state .entry)) (now (answer .entry)) ⌝ }
+    ensures { λ r. ⌜ record { number = r; slots = now (slots .exit); log = []; state = now (state .exit); answer = now (answer .exit) } ≡ stepCall (method (now (code .entry)) (now (kinds .entry)) (now (words .entry))) (now (slots .entry)) (now (state .entry)) (now (answer .entry)) ⌝ }
 {
     if !are_lent(state, answer, 4) {
         return 1;
@@ -49,7 +49,7 @@ pub extern "C" fn workbook_forward(
     state: &mut [u32],
     answer: &mut [u32],
 ) -> u32
-    ensures { λ r. ⌜ record { number = r; slots = now (slots .exit); log = now (log .exit); state = now (state .exit); answer = now (answer .exit) } ≡ forwardCall (lent (now (code .entry)) (now (kinds .entry)) (now (words .entry))) (now (slots .entry)) (now (log .entry)) (now (state .entry)) (now (answer .entry)) ⌝ }
+    ensures { λ r. ⌜ record { number = r; slots = now (slots .exit); log = now (log .exit); state = now (state .exit); answer = now (answer .exit) } ≡ forwardCall (method (now (code .entry)) (now (kinds .entry)) (now (words .entry))) (now (slots .entry)) (now (log .entry)) (now (state .entry)) (now (answer .entry)) ⌝ }
 {
     if !are_lent(state, answer, 4) {
         return 1;
@@ -73,7 +73,7 @@ pub extern "C" fn workbook_back(
     log: &[u32],
     state: &mut [u32],
 ) -> u32
-    ensures { λ r. ⌜ record { number = r; slots = now (slots .exit); log = now (log .entry); state = now (state .exit); answer = [] } ≡ backCall (lent (now (code .entry)) (now (kinds .entry)) (now (words .entry))) (now (slots .entry)) (now (log .entry)) (now (state .entry)) ⌝ }
+    ensures { λ r. ⌜ record { number = r; slots = now (slots .exit); log = now (log .entry); state = now (state .exit); answer = [] } ≡ backCall (method (now (code .entry)) (now (kinds .entry)) (now (words .entry))) (now (slots .entry)) (now (log .entry)) (now (state .entry)) ⌝ }
 {
     if state.len() < 6 {
         return 1;

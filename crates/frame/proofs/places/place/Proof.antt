@@ -1,14 +1,14 @@
 -- `place` meets its contract. Assumes nothing.
 use mathlib.Core.Path.{sym, _∙_}
 use borrow.Author.Tests.{le-leb, lt-leb, not-true, not-false}
-use Rattle.rules.specs.Asked.{_else_, _>>_}
-use Rattle.frame.specs.Place.{placeAsked, placeOf}
+use Rattle.rules.specs.Check.{_else_, _>>_}
+use Rattle.frame.specs.Place.{placeCheck, placeOf}
 use borrow.Author.Needs.{needs}
 use Rattle.frame.proofs.places.place.Statement.{statement}
 use Rattle.frame.proofs.places.place.Tie as tie
 
 returns : tie.Need-returns
-unfolding placeOf placeAsked _else_ _>>_
+unfolding placeOf placeCheck _else_ _>>_
 returns c = simp (lt-leb _ _ (c .if1 .taken))
 
 cast-if2 : tie.Need-cast-if2
@@ -24,14 +24,14 @@ cast-if2-3 : tie.Need-cast-if2-3
 cast-if2-3 c = search needs
 
 returns-2 : tie.Need-returns-2
-unfolding placeOf placeAsked _else_ _>>_
+unfolding placeOf placeCheck _else_ _>>_
 returns-2 c = simp (le-leb _ _ (c .before .before .before .if1 .left), lt-leb _ _ (c .if2 .taken))
 
 local-there-requires : tie.Need-local-there-requires
 local-there-requires c κs = search needs
 
 returns-3 : tie.Need-returns-3
-unfolding placeOf placeAsked _else_ _>>_
+unfolding placeOf placeCheck _else_ _>>_
 returns-3 c =
     let called = c .before in
     let two = called .before in
@@ -48,7 +48,7 @@ add-t16 : tie.Need-add-t16
 add-t16 c = search needs
 
 returns-4 : tie.Need-returns-4
-unfolding placeOf placeAsked _else_ _>>_
+unfolding placeOf placeCheck _else_ _>>_
 returns-4 c =
     let called = c .before .before in
     let two = called .before in

@@ -1,6 +1,6 @@
 -- `back` meets its contract. Assumes nothing.
 use denote.Ref.{now}
-use Rattle.rules.specs.Questions.{lent}
+use Rattle.rules.specs.Questions.{method}
 use mathlib.Core.Path.{sym, _∙_}
 use Rattle.frame.proofs.FrameAnswers.{frame-passed, frame-refused}
 use Rattle.rules.proofs.History.{back-by, back-passed}
@@ -8,8 +8,8 @@ use borrow.Author.Needs.{needs}
 use Rattle.history.proofs.back_press.back.Statement.{statement}
 use Rattle.history.proofs.back_press.back.Tie as tie
 
-ask-back-requires : tie.Need-ask-back-requires
-ask-back-requires c κs = search needs
+check-back-requires : tie.Need-check-back-requires
+check-back-requires c κs = search needs
 
 enum-known-asked : tie.Need-enum-known-asked
 enum-known-asked c = search needs
@@ -20,8 +20,8 @@ enum-told c = search needs
 restore-requires : tie.Need-restore-requires
 restore-requires c κs =
     let a = c .before .before .before .before .before .before .before .before .before .before .args in
-    let l = lent (now (a .code)) (now (a .kinds)) (now (a .words)) in
-    let passes = frame-passed _ (sym (c .before .enum-told .given .1) ∙ c .before .before .before .ask-back .ensures) in
+    let l = method (now (a .code)) (now (a .kinds)) (now (a .words)) in
+    let passes = frame-passed _ (sym (c .before .enum-told .given .1) ∙ c .before .before .before .check-back .ensures) in
     let b = back-passed l (a .s) (now (a .slots)) (now (a .log)) passes in
     ((b .some, b .reached), (b .few, b .within))
 
@@ -31,8 +31,8 @@ same-length c = search needs
 returns : tie.Need-returns
 returns c =
     let a = c .before .before .before .before .before .before .before .before .before .before .args in
-    let l = lent (now (a .code)) (now (a .kinds)) (now (a .words)) in
-    sym (back-by l (a .s) (now (a .slots)) (now (a .log)) _ (frame-refused _ _ (sym (c .before .asked .given .1) ∙ c .before .before .before .ask-back .ensures)))
+    let l = method (now (a .code)) (now (a .kinds)) (now (a .words)) in
+    sym (back-by l (a .s) (now (a .slots)) (now (a .log)) _ (frame-refused _ _ (sym (c .before .asked .given .1) ∙ c .before .before .before .check-back .ensures)))
 
 same-length-2 : tie.Need-same-length-2
 same-length-2 c = search needs
@@ -40,15 +40,15 @@ same-length-2 c = search needs
 returns-2 : tie.Need-returns-2
 returns-2 c =
     let a = c .before .before .before .before .before .before .before .before .before .before .before .before .before .args in
-    let l = lent (now (a .code)) (now (a .kinds)) (now (a .words)) in
-    let passes = frame-passed _ (sym (c .before .before .before .before .enum-told .given .1) ∙ c .before .before .before .before .before .before .ask-back .ensures) in
+    let l = method (now (a .code)) (now (a .kinds)) (now (a .words)) in
+    let passes = frame-passed _ (sym (c .before .before .before .before .enum-told .given .1) ∙ c .before .before .before .before .before .before .check-back .ensures) in
     c .before .before .restore .ensures ∙ sym (back-by l (a .s) (now (a .slots)) (now (a .log)) _ passes)
 
 pub back-spec : {M : Type 1} → statement M
 back-spec =
     tie.close
     (tie.spec
-    ask-back-requires
+    check-back-requires
     enum-known-asked
     enum-told
     restore-requires

@@ -1,7 +1,7 @@
 -- `forward` meets its contract. Assumes nothing.
 use mathlib.Core.Path.{_∙_}
 use denote.Ref.{now}
-use Rattle.rules.specs.Questions.{lent}
+use Rattle.rules.specs.Questions.{method}
 use Rattle.rules.proofs.Legal.{ordinary-legal}
 use Rattle.interpreter.proofs.Steps.{ordinary-there}
 use Rattle.history.proofs.Forwards.{forward-there}
@@ -18,7 +18,7 @@ enum-known-decision c = search needs
 grant-requires : tie.Need-grant-requires
 grant-requires c κs =
     let a = c .before .before .before .before .before .before .before .before .before .before .before .before .before .before .args in
-    let l = lent (now (a .code)) (now (a .kinds)) (now (a .words)) in
+    let l = method (now (a .code)) (now (a .kinds)) (now (a .words)) in
     let k = ordinary-legal l (a .s) _ _ (ordinary-there l (a .s) (now (a .slots)) _ (c .before .before .before .before .before .before .before .advance .ensures) _ (c .before .before .before .decision .given .1)) in
     (k .few, k .within, k .frame-there .room)
 
@@ -40,7 +40,7 @@ same-length-2 c = search needs
 returns : tie.Need-returns
 returns c =
     let a = c .before .before .before .before .before .before .before .before .before .before .before .before .before .before .before .before .before .before .before .args in
-    let l = lent (now (a .code)) (now (a .kinds)) (now (a .words)) in
+    let l = method (now (a .code)) (now (a .kinds)) (now (a .words)) in
     c .before .before .before .before .grant .ensures ∙ forward-there l (a .s) (now (a .slots)) (now (a .log)) _ (c .before .before .before .before .before .before .before .before .before .before .before .before .advance .ensures) _ (c .before .before .before .before .before .before .before .before .decision .given .1)
 
 same-length-3 : tie.Need-same-length-3
@@ -49,7 +49,7 @@ same-length-3 c = search needs
 returns-2 : tie.Need-returns-2
 returns-2 c =
     let a = c .before .before .before .before .before .before .before .before .before .before .before .before .args in
-    let l = lent (now (a .code)) (now (a .kinds)) (now (a .words)) in
+    let l = method (now (a .code)) (now (a .kinds)) (now (a .words)) in
     forward-there l (a .s) (now (a .slots)) (now (a .log)) _ (c .before .before .before .before .before .advance .ensures) _ (c .before .decision2 .given .1)
 
 same-length-4 : tie.Need-same-length-4
@@ -58,7 +58,7 @@ same-length-4 c = search needs
 returns-3 : tie.Need-returns-3
 returns-3 c =
     let a = c .before .before .before .before .before .before .before .before .before .before .before .args in
-    let l = lent (now (a .code)) (now (a .kinds)) (now (a .words)) in
+    let l = method (now (a .code)) (now (a .kinds)) (now (a .words)) in
     forward-there l (a .s) (now (a .slots)) (now (a .log)) _ (c .before .before .before .before .advance .ensures) _ (c .enum-told .given .1)
 
 same-length-5 : tie.Need-same-length-5
@@ -67,7 +67,7 @@ same-length-5 c = search needs
 returns-4 : tie.Need-returns-4
 returns-4 c =
     let a = c .before .before .before .before .before .before .before .before .before .before .before .before .args in
-    let l = lent (now (a .code)) (now (a .kinds)) (now (a .words)) in
+    let l = method (now (a .code)) (now (a .kinds)) (now (a .words)) in
     forward-there l (a .s) (now (a .slots)) (now (a .log)) _ (c .before .before .before .before .before .advance .ensures) _ (c .before .decision3 .given .1)
 
 pub forward-spec : {M : Type 1} → statement M

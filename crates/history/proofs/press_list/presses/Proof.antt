@@ -1,7 +1,7 @@
 -- `presses` meets its contract. Assumes nothing.
 use native.Mathlib.Omega.{arith}
 use denote.Ref.{now}
-use Rattle.rules.specs.Questions.{lent}
+use Rattle.rules.specs.Questions.{method}
 use mathlib.Core.Path.{refl}
 use Rattle.history.proofs.Replays.{made, too-short}
 use borrow.Author.Needs.{needs}
@@ -11,7 +11,7 @@ use Rattle.history.proofs.press_list.presses.Tie as tie
 returns : tie.Need-returns
 returns c =
     let a = c .before .before .before .before .before .before .before .before .args in
-    let l = lent (now (a .code)) (now (a .kinds)) (now (a .words)) in
+    let l = method (now (a .code)) (now (a .kinds)) (now (a .words)) in
     too-short l (now (a .bytes)) (a .s) (now (a .slots)) (now (a .log)) (now (a .answers)) _ (omega (arith, c .if1 .taken)) refl
 
 make-presses-requires : tie.Need-make-presses-requires
@@ -29,7 +29,7 @@ same-length-3 c = search needs
 returns-2 : tie.Need-returns-2
 returns-2 c =
     let a = c .before .before .before .before .before .before .before .before .before .before .before .before .before .before .before .before .before .before .args in
-    let l = lent (now (a .code)) (now (a .kinds)) (now (a .words)) in
+    let l = method (now (a .code)) (now (a .kinds)) (now (a .words)) in
     made l (now (a .bytes)) (a .s) (now (a .slots)) (now (a .log)) (now (a .answers)) _ (omega (arith, c .before .before .before .before .before .before .before .before .before .before .if1 .left)) (c .before .before .before .before .before .before .make-presses .ensures)
 
 pub presses-spec : {M : Type 1} → statement M

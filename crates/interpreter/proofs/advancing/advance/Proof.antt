@@ -3,15 +3,15 @@ use mathlib.Core.Path.{refl, sym, _∙_}
 use mathlib.Core.Logic.{inr}
 use denote.Ref.{now}
 use Rattle.frame.proofs.FrameAnswers.{frame-passed}
-use Rattle.rules.specs.Questions.{lent}
+use Rattle.rules.specs.Questions.{method}
 use Rattle.interpreter.proofs.Answers.{by-frame}
 use Rattle.interpreter.proofs.Steps.{advance-other}
 use borrow.Author.Needs.{needs}
 use Rattle.interpreter.proofs.advancing.advance.Statement.{statement}
 use Rattle.interpreter.proofs.advancing.advance.Tie as tie
 
-ask-frame-requires : tie.Need-ask-frame-requires
-ask-frame-requires c κs = search needs
+check-frame-requires : tie.Need-check-frame-requires
+check-frame-requires c κs = search needs
 
 enum-known-asked : tie.Need-enum-known-asked
 enum-known-asked c = search needs
@@ -20,7 +20,7 @@ enum-told : tie.Need-enum-told
 enum-told c = search needs
 
 advance-framed-requires : tie.Need-advance-framed-requires
-advance-framed-requires c κs = frame-passed _ (sym (c .before .enum-told .given .1) ∙ c .before .before .before .ask-frame .ensures)
+advance-framed-requires c κs = frame-passed _ (sym (c .before .enum-told .given .1) ∙ c .before .before .before .check-frame .ensures)
 
 same-length : tie.Need-same-length
 same-length c = search needs
@@ -28,8 +28,8 @@ same-length c = search needs
 returns : tie.Need-returns
 returns c =
     let a = c .before .before .before .before .before .before .before .before .before .args in
-    let l = lent (now (a .code)) (now (a .kinds)) (now (a .words)) in
-    sym (advance-other l 0 (a .s) (now (a .slots)) (a .most) _ (by-frame _ _ _ _ (sym (c .before .asked .given .1) ∙ c .before .before .before .ask-frame .ensures)) (inr (inr refl)))
+    let l = method (now (a .code)) (now (a .kinds)) (now (a .words)) in
+    sym (advance-other l 0 (a .s) (now (a .slots)) (a .most) _ (by-frame _ _ _ _ (sym (c .before .asked .given .1) ∙ c .before .before .before .check-frame .ensures)) (inr (inr refl)))
 
 same-length-2 : tie.Need-same-length-2
 same-length-2 c = search needs
@@ -41,7 +41,7 @@ pub advance-spec : {M : Type 1} → statement M
 advance-spec =
     tie.close
     (tie.spec
-    ask-frame-requires
+    check-frame-requires
     enum-known-asked
     enum-told
     advance-framed-requires

@@ -3,7 +3,7 @@ use Prim.Native.Nat.{_-_}
 use mathlib.Core.Path.{refl, sym, _∙_}
 use native.Mathlib.Omega.{arith}
 use native.Mathlib.Nat.{sub-zero}
-use Rattle.rules.specs.Questions.{lent}
+use Rattle.rules.specs.Questions.{method}
 use Rattle.rules.proofs.Legal.{ordinary-legal}
 use Rattle.interpreter.proofs.Steps.{Going, turn, ends-there, all-taken}
 use borrow.Author.Needs.{needs}
@@ -11,7 +11,7 @@ use Rattle.interpreter.proofs.advancing.advance_framed.Statement.{state
 use Rattle.interpreter.proofs.advancing.advance_framed.Tie as tie
 
 abbrev Inv-loop : tie.InvT-loop
-Inv-loop code kinds words slots₀ most t₀ steps₀ slots t steps = Going (lent code kinds words) slots₀ most t₀ slots t steps
+Inv-loop code kinds words slots₀ most t₀ steps₀ slots t steps = Going (method code kinds words) slots₀ most t₀ slots t steps
 
 abbrev μ-loop : tie.MeasureT-loop
 μ-loop code kinds words slots₀ most t₀ steps₀ slots t steps = most - steps

@@ -6,8 +6,8 @@ use borrow.Author.Needs.{needs}
 use Rattle.interpreter.proofs.deciding.decide.Statement.{statement}
 use Rattle.interpreter.proofs.deciding.decide.Tie as tie
 
-ask-frame-requires : tie.Need-ask-frame-requires
-ask-frame-requires c κs = search needs
+check-frame-requires : tie.Need-check-frame-requires
+check-frame-requires c κs = search needs
 
 enum-known-asked : tie.Need-enum-known-asked
 enum-known-asked c = search needs
@@ -16,10 +16,10 @@ enum-told : tie.Need-enum-told
 enum-told c = search needs
 
 decide-framed-requires : tie.Need-decide-framed-requires
-decide-framed-requires c κs = frame-passed _ (sym (c .enum-told .given .1) ∙ c .before .before .ask-frame .ensures)
+decide-framed-requires c κs = frame-passed _ (sym (c .enum-told .given .1) ∙ c .before .before .check-frame .ensures)
 
 returns : tie.Need-returns
-returns c = sym (by-frame _ _ _ _ (sym (c .before .asked .given .1) ∙ c .before .before .before .ask-frame .ensures))
+returns c = sym (by-frame _ _ _ _ (sym (c .before .asked .given .1) ∙ c .before .before .before .check-frame .ensures))
 
 returns-2 : tie.Need-returns-2
 returns-2 c = search needs
@@ -28,7 +28,7 @@ pub decide-spec : {M : Type 1} → statement M
 decide-spec =
     tie.close
     (tie.spec
-    ask-frame-requires
+    check-frame-requires
     enum-known-asked
     enum-told
     decide-framed-requires

@@ -2,7 +2,7 @@
 use mathlib.Core.Path.{sym, _∙_}
 use native.Mathlib.Omega.{arith}
 use denote.Ref.{now}
-use Rattle.rules.specs.Questions.{lent}
+use Rattle.rules.specs.Questions.{method}
 use Rattle.rules.proofs.Questions.{framed}
 use Rattle.interpreter.specs.Stages.{locatedOf}
 use Rattle.interpreter.proofs.Answers.{decodes, by-fetch, by-needs, by-located, next-small, in-table, in-code}
@@ -34,7 +34,7 @@ cast-next c = search needs
 add-next : tie.Need-add-next
 add-next c =
     let a = c .before .before .before .before .before .before .before .before .before .before .before .before .args in
-    let l = lent (now (a .code)) (now (a .kinds)) (now (a .words)) in
+    let l = method (now (a .code)) (now (a .kinds)) (now (a .words)) in
     let f = c .before .before .before .before .before .before .before .before .before .before .before .before .pre in
     let d = decodes (l .code) (a .s .pc) _ _ _ _ (sym (c .before .before .before .before .before .decoded2 .given .1) ∙ c .before .before .before .before .before .before .before .decode .ensures) in
     omega (arith, next-small l (a .s) (now (a .slots)) f _ _ _ _ d)
@@ -46,7 +46,7 @@ decide-located-requires : tie.Need-decide-located-requires
 unfolding locatedOf
 decide-located-requires c κs =
     let a = c .before .before .before .before .before .before .before .before .before .before .before .before .before .args in
-    let l = lent (now (a .code)) (now (a .kinds)) (now (a .words)) in
+    let l = method (now (a .code)) (now (a .kinds)) (now (a .words)) in
     let f = c .before .before .before .before .before .before .before .before .before .before .before .before .before .pre in
     let d = decodes (l .code) (a .s .pc) _ _ _ _ (sym (c .before .before .before .before .before .before .decoded2 .given .1) ∙ c .before .before .before .before .before .before .before .before .decode .ensures) in
     rw (c .locate .ensures) (framed l (a .s) (now (a .slots)) f .short-code, (in-table l (a .s) (now (a .slots)) f _ _ _ _ d, in-code l (a .s) (now (a .slots)) f _ _ _ _ d))
@@ -54,14 +54,14 @@ decide-located-requires c κs =
 returns : tie.Need-returns
 returns c =
     let a = c .before .before .before .before .before .before .before .before .args in
-    let l = lent (now (a .code)) (now (a .kinds)) (now (a .words)) in
+    let l = method (now (a .code)) (now (a .kinds)) (now (a .words)) in
     let f = c .before .before .before .before .before .before .before .before .pre in
     sym (by-fetch l (a .s) (now (a .slots)) f _ (sym (c .before .decoded .given .1) ∙ c .before .before .before .decode .ensures))
 
 returns-2 : tie.Need-returns-2
 returns-2 c =
     let a = c .before .before .before .before .before .before .before .before .before .before .before .before .args in
-    let l = lent (now (a .code)) (now (a .kinds)) (now (a .words)) in
+    let l = method (now (a .code)) (now (a .kinds)) (now (a .words)) in
     let f = c .before .before .before .before .before .before .before .before .before .before .before .before .pre in
     let d = decodes (l .code) (a .s .pc) _ _ _ _ (sym (c .before .before .before .before .before .decoded2 .given .1) ∙ c .before .before .before .before .before .before .before .decode .ensures) in
     sym (by-needs l (a .s) (now (a .slots)) f _ _ _ _ d _ (sym (c .before .placed .given .1) ∙ c .before .before .before .place .ensures))
@@ -69,7 +69,7 @@ returns-2 c =
 returns-3 : tie.Need-returns-3
 returns-3 c =
     let a = c .before .before .before .before .before .before .before .before .before .before .before .before .before .before .args in
-    let l = lent (now (a .code)) (now (a .kinds)) (now (a .words)) in
+    let l = method (now (a .code)) (now (a .kinds)) (now (a .words)) in
     let f = c .before .before .before .before .before .before .before .before .before .before .before .before .before .before .pre in
     let d = decodes (l .code) (a .s .pc) _ _ _ _ (sym (c .before .before .before .before .before .before .before .decoded2 .given .1) ∙ c .before .before .before .before .before .before .before .before .before .decode .ensures) in
     c .decide-located .ensures ∙ rw (c .before .locate .ensures) (by-located l (a .s) (now (a .slots)) f _ _ _ _ d _ _ (sym (c .before .before .before .placed2 .given .1) ∙ c .before .before .before .before .before .place .ensures))

@@ -1,7 +1,7 @@
 -- `run_framed` meets its contract. Assumes nothing.
 use native.Mathlib.Omega.{arith}
 use denote.Ref.{now}
-use Rattle.rules.specs.Questions.{lent}
+use Rattle.rules.specs.Questions.{method}
 use Rattle.rules.proofs.Legal.{ordinary-legal}
 use Rattle.interpreter.proofs.Taken.{no-budget, ordinary-last, ends-stopped, ends-other}
 use borrow.Author.Needs.{needs}
@@ -14,7 +14,7 @@ ended-requires c κs = search needs
 returns : tie.Need-returns
 returns c =
     let a = c .before .before .before .before .before .before .args in
-    let l = lent (now (a .code)) (now (a .kinds)) (now (a .words)) in
+    let l = method (now (a .code)) (now (a .kinds)) (now (a .words)) in
     rw (c .ended .ensures) (no-budget l (a .budget) (a .s) (now (a .slots)) (c .before .if1 .taken))
 
 sub-advance-framed : tie.Need-sub-advance-framed
@@ -38,13 +38,13 @@ same-length c = search needs
 returns-2 : tie.Need-returns-2
 returns-2 c =
     let a = c .before .before .before .before .before .before .before .before .before .before .before .before .before .args in
-    let l = lent (now (a .code)) (now (a .kinds)) (now (a .words)) in
+    let l = method (now (a .code)) (now (a .kinds)) (now (a .words)) in
     rw (c .ended2 .ensures, c .before .end-of .ensures) (ends-other l (a .budget) (a .s) (now (a .slots)) (c .before .before .before .before .before .before .before .before .if1 .left) _ (c .before .before .before .before .before .before .advance-framed .ensures .0) (c .before .before .match .keys2))
 
 commit-requires : tie.Need-commit-requires
 commit-requires c κs =
     let a = c .before .before .before .before .before .before .before .before .before .before .before .before .before .before .args in
-    let l = lent (now (a .code)) (now (a .kinds)) (now (a .words)) in
+    let l = method (now (a .code)) (now (a .kinds)) (now (a .words)) in
     let k = ordinary-legal l _ _ _ (ordinary-last l (a .budget) (a .s) (now (a .slots)) (c .before .before .before .before .before .before .before .before .before .if1 .left) _ (c .before .before .before .before .before .before .before .advance-framed .ensures .0) _ (c .before .before .decision .given .1)) in
     (k .few, k .within, k .frame-there .room)
 
@@ -60,7 +60,7 @@ same-length-2 c = search needs
 returns-3 : tie.Need-returns-3
 returns-3 c =
     let a = c .before .before .before .before .before .before .before .before .before .before .before .before .before .before .before .before .before .before .before .args in
-    let l = lent (now (a .code)) (now (a .kinds)) (now (a .words)) in
+    let l = method (now (a .code)) (now (a .kinds)) (now (a .words)) in
     rw (c .before .moved .ensures, c .before .before .before .before .commit .ensures) (ends-stopped l (a .budget) (a .s) (now (a .slots)) (c .before .before .before .before .before .before .before .before .before .before .before .before .before .before .if1 .left) _ (c .before .before .before .before .before .before .before .before .before .before .before .before .advance-framed .ensures .0) _ (c .before .before .before .before .before .before .before .decision .given .1))
 
 pub run-framed-spec : {M : Type 1} → statement M

@@ -1,6 +1,6 @@
 -- `step` meets its contract. Assumes nothing.
 use denote.Ref.{now}
-use Rattle.rules.specs.Questions.{lent}
+use Rattle.rules.specs.Questions.{method}
 use Rattle.rules.proofs.Legal.{ordinary-legal}
 use Rattle.interpreter.proofs.Steps.{ordinary-there}
 use Rattle.interpreter.proofs.Taken.{step-ordinary, step-other}
@@ -20,13 +20,13 @@ same-length c = search needs
 returns : tie.Need-returns
 returns c =
     let a = c .before .before .before .before .before .before .before .before .before .args in
-    let l = lent (now (a .code)) (now (a .kinds)) (now (a .words)) in
+    let l = method (now (a .code)) (now (a .kinds)) (now (a .words)) in
     step-other l (a .s) (now (a .slots)) _ (c .before .before .before .advance .ensures) (c .match .keys2)
 
 commit-requires : tie.Need-commit-requires
 commit-requires c κs =
     let a = c .before .before .before .before .before .before .before .before .before .before .before .before .args in
-    let l = lent (now (a .code)) (now (a .kinds)) (now (a .words)) in
+    let l = method (now (a .code)) (now (a .kinds)) (now (a .words)) in
     let k = ordinary-legal l (a .s) _ _ (ordinary-there l (a .s) (now (a .slots)) _ (c .before .before .before .before .before .before .advance .ensures) _ (c .before .before .decision .given .1)) in
     (k .few, k .within, k .frame-there .room)
 
@@ -39,7 +39,7 @@ same-length-2 c = search needs
 returns-2 : tie.Need-returns-2
 returns-2 c =
     let a = c .before .before .before .before .before .before .before .before .before .before .before .before .before .before .before .before .args in
-    let l = lent (now (a .code)) (now (a .kinds)) (now (a .words)) in
+    let l = method (now (a .code)) (now (a .kinds)) (now (a .words)) in
     rw (c .moved .ensures, c .before .before .before .commit .ensures) (step-ordinary l (a .s) (now (a .slots)) _ (c .before .before .before .before .before .before .before .before .before .before .advance .ensures) _ (c .before .before .before .before .before .before .decision .given .1))
 
 pub step-spec : {M : Type 1} → statement M

@@ -7,8 +7,8 @@ use borrow.Author.Needs.{needs}
 use Rattle.sheet.proofs.loading.load.Statement.{statement}
 use Rattle.sheet.proofs.loading.load.Tie as tie
 
-check-requires : tie.Need-check-requires
-check-requires c κs = search needs
+check-sheet-requires : tie.Need-check-sheet-requires
+check-sheet-requires c κs = search needs
 
 enum-known-checked : tie.Need-enum-known-checked
 enum-known-checked c = search needs
@@ -17,12 +17,12 @@ enum-known-checked-2 : tie.Need-enum-known-checked-2
 enum-known-checked-2 c = search needs
 
 load-read-requires : tie.Need-load-read-requires
-load-read-requires c κs = record-read _ _ (sym (c .before .before .before .before .checked2 .given .1) ∙ c .before .before .before .before .before .before .check .ensures)
+load-read-requires c κs = record-read _ _ (sym (c .before .before .before .before .checked2 .given .1) ∙ c .before .before .before .before .before .before .check-sheet .ensures)
 
 returns : tie.Need-returns
 returns c =
     let a = c .before .before .before .before .before .before .before .before .args in
-    load-refused (now (a .sheet)) (now (a .slots)) (now (a .kinds)) (now (a .words)) _ (record-refused _ _ (sym (c .before .checked .given .1) ∙ c .before .before .before .check .ensures))
+    load-refused (now (a .sheet)) (now (a .slots)) (now (a .kinds)) (now (a .words)) _ (record-refused _ _ (sym (c .before .checked .given .1) ∙ c .before .before .before .check-sheet .ensures))
 
 same-length : tie.Need-same-length
 same-length c = search needs
@@ -40,7 +40,7 @@ pub load-spec : {M : Type 1} → statement M
 load-spec =
     tie.close
     (tie.spec
-    check-requires
+    check-sheet-requires
     enum-known-checked
     enum-known-checked-2
     load-read-requires

@@ -1,7 +1,7 @@
 -- `refuse_presses` meets its contract. Assumes nothing.
 use native.Mathlib.Omega.{arith}
 use denote.Ref.{now}
-use Rattle.rules.specs.Questions.{lent}
+use Rattle.rules.specs.Questions.{method}
 use Rattle.workbook.proofs.ManyPresses.{no-room, list-refused}
 use borrow.Author.Needs.{needs}
 use Rattle.workbook.proofs.lists.refuse_presses.Statement.{statement}
@@ -22,7 +22,7 @@ same-length-2 c = search needs
 returns : tie.Need-returns
 returns c =
     let a = c .before .before .before .before .before .before .before .before .before .before .before .before .before .before .before .args in
-    let l = lent (now (a .code)) (now (a .kinds)) (now (a .words)) in
+    let l = method (now (a .code)) (now (a .kinds)) (now (a .words)) in
     list-refused l _ _ (no-room l _ _ (omega arith)) (now (a .bytes)) (now (a .log)) (now (a .answers)) (c .before .before .before .before .before .before .before .before .before .before .before .before .before .before .before .pre) _ (c .before .before .before .before .before .presses .ensures .0)
 
 pub refuse-presses-spec : {M : Type 1} → statement M

@@ -1,11 +1,11 @@
 -- `workbook_presses` meets its contract. Assumes nothing.
 use native.Mathlib.Omega.{arith}
 use denote.Ref.{now}
-use Rattle.rules.specs.Questions.{lent}
+use Rattle.rules.specs.Questions.{method}
 use mathlib.Core.Path.{sym, _∙_}
 use borrow.Author.Tests.{not-true, not-false}
-use Rattle.rules.proofs.Asked.{is-passed}
-use Rattle.workbook.proofs.Asking.{sizes-no, sizes-yes}
+use Rattle.rules.proofs.Check.{is-passed}
+use Rattle.workbook.proofs.Checks.{sizes-no, sizes-yes}
 use Rattle.workbook.proofs.ManyPresses.{few-answers, few-state, no-state, list-made}
 use borrow.Author.Needs.{needs}
 use Rattle.workbook.proofs.lists.workbook_presses.Statement.{statement}
@@ -14,13 +14,13 @@ use Rattle.workbook.proofs.lists.workbook_presses.Tie as tie
 returns : tie.Need-returns
 returns c =
     let a = c .before .before .before .before .before .before .before .before .before .args in
-    let l = lent (now (a .code)) (now (a .kinds)) (now (a .words)) in
+    let l = method (now (a .code)) (now (a .kinds)) (now (a .words)) in
     few-answers l (now (a .slots)) (now (a .log)) (now (a .state)) (now (a .bytes)) (now (a .answers)) (omega (arith, c .if1 .taken))
 
 returns-2 : tie.Need-returns-2
 returns-2 c =
     let a = c .before .before .before .before .before .before .before .before .before .before .args in
-    let l = lent (now (a .code)) (now (a .kinds)) (now (a .words)) in
+    let l = method (now (a .code)) (now (a .kinds)) (now (a .words)) in
     few-state l (now (a .slots)) (now (a .log)) (now (a .state)) (now (a .bytes)) (now (a .answers)) (omega (arith, c .before .if1 .left)) (c .if2 .taken)
 
 sizes-fit-requires : tie.Need-sizes-fit-requires
@@ -41,7 +41,7 @@ same-length-3 c = search needs
 returns-3 : tie.Need-returns-3
 returns-3 c =
     let a = c .before .before .before .before .before .before .before .before .before .before .before .before .before .before .before .before .before .before .before .before .args in
-    let l = lent (now (a .code)) (now (a .kinds)) (now (a .words)) in
+    let l = method (now (a .code)) (now (a .kinds)) (now (a .words)) in
     no-state l (now (a .slots)) (now (a .log)) (now (a .state)) (now (a .bytes)) (now (a .answers)) (omega (arith, c .before .before .before .before .before .before .before .before .before .before .before .if1 .left)) (c .before .before .before .before .before .before .before .before .before .before .if2 .left) (sizes-no _ (sym (c .before .before .before .before .before .before .before .before .sizes-fit .ensures) ∙ not-true _ (c .before .before .before .before .before .before .before .if3 .taken))) _ _ (c .before .before .before .before .refuse-presses .ensures .0) (c .before .before .before .before .refuse-presses .ensures .1)
 
 read-state-requires : tie.Need-read-state-requires
@@ -68,7 +68,7 @@ same-length-7 c = search needs
 returns-4 : tie.Need-returns-4
 returns-4 c =
     let a = c .before .before .before .before .before .before .before .before .before .before .before .before .before .before .before .before .before .before .before .before .before .before .before .before .before .before .before .before .before .args in
-    let l = lent (now (a .code)) (now (a .kinds)) (now (a .words)) in
+    let l = method (now (a .code)) (now (a .kinds)) (now (a .words)) in
     list-made l (now (a .slots)) (now (a .log)) (now (a .state)) (now (a .bytes)) (now (a .answers)) (omega (arith, c .before .before .before .before .before .before .before .before .before .before .before .before .before .before .before .before .before .before .before .before .if1 .left)) (c .before .before .before .before .before .before .before .before .before .before .before .before .before .before .before .before .before .before .before .if2 .left) (is-passed _ (sym (c .before .before .before .before .before .before .before .before .before .before .before .before .before .before .before .before .before .sizes-fit .ensures) ∙ not-false _ (c .before .before .before .before .before .before .before .before .before .before .before .before .before .before .before .before .if3 .left))) _ _ _ _ _ _ (rw (c .before .before .before .before .before .before .before .before .before .before .before .before .before .before .read-state .ensures) at (c .before .before .before .before .before .before .before .before .before .before .presses .ensures .0)) (c .before .before .write-state .ensures)
 
 pub workbook-presses-spec : {M : Type 1} → statement M

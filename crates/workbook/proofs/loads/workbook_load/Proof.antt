@@ -3,10 +3,10 @@ use native.Mathlib.Omega.{arith}
 use denote.Ref.{now}
 use mathlib.Core.Path.{sym, _∙_}
 use borrow.Author.Tests.{not-true, not-false}
-use Rattle.rules.proofs.Asked.{is-passed}
+use Rattle.rules.proofs.Check.{is-passed}
 use Prim.Native.Nat.{_≤_}
 use lib.ListN.{length}
-use Rattle.workbook.proofs.Asking.{lengths-no, lengths-yes}
+use Rattle.workbook.proofs.Checks.{lengths-no, lengths-yes}
 use Rattle.workbook.proofs.LoadedWords.{code-lies, load-short, load-refused, load-accepted}
 use borrow.Author.Needs.{needs}
 use Rattle.workbook.proofs.loads.workbook_load.Statement.{statement}

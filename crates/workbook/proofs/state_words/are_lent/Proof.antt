@@ -1,5 +1,5 @@
 -- `are_lent` meets its contract. Assumes nothing.
-use Rattle.workbook.proofs.Asking.{short-state, long-state}
+use Rattle.workbook.proofs.Checks.{short-state, long-state}
 use Rattle.workbook.proofs.state_words.are_lent.Statement.{statement}
 use Rattle.workbook.proofs.state_words.are_lent.Tie as tie
 

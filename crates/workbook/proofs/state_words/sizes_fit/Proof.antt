@@ -1,5 +1,5 @@
 -- `sizes_fit` meets its contract. Assumes nothing.
-use Rattle.workbook.proofs.Asking.{stack-large, stack-fits}
+use Rattle.workbook.proofs.Checks.{stack-large, stack-fits}
 use borrow.Author.Needs.{needs}
 use Rattle.workbook.proofs.state_words.sizes_fit.Statement.{statement}
 use Rattle.workbook.proofs.state_words.sizes_fit.Tie as tie

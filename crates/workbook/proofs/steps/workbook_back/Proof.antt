@@ -2,10 +2,10 @@
 use denote.Ref.{now}
 use mathlib.Core.Path.{sym, _∙_}
 use borrow.Author.Tests.{not-true, not-false}
-use Rattle.rules.proofs.Asked.{is-passed}
-use Rattle.rules.specs.Questions.{lent}
+use Rattle.rules.proofs.Check.{is-passed}
+use Rattle.rules.specs.Questions.{method}
 use mathlib.Core.List.{[]}
-use Rattle.workbook.proofs.Asking.{sizes-no, sizes-yes}
+use Rattle.workbook.proofs.Checks.{sizes-no, sizes-yes}
 use Rattle.workbook.proofs.Made.{back-made, back-short, back-sizes}
 use borrow.Author.Needs.{needs}
 use Rattle.workbook.proofs.steps.workbook_back.Statement.{statement}
@@ -14,7 +14,7 @@ use Rattle.workbook.proofs.steps.workbook_back.Tie as tie
 returns : tie.Need-returns
 returns c =
     let a = c .before .before .before .before .before .before .before .args in
-    let l = lent (now (a .code)) (now (a .kinds)) (now (a .words)) in
+    let l = method (now (a .code)) (now (a .kinds)) (now (a .words)) in
     back-short l (now (a .slots)) (now (a .log)) (now (a .state)) (c .if1 .taken)
 
 sizes-fit-requires : tie.Need-sizes-fit-requires
@@ -26,7 +26,7 @@ same-length c = search needs
 returns-2 : tie.Need-returns-2
 returns-2 c =
     let a = c .before .before .before .before .before .before .before .before .before .before .args in
-    let l = lent (now (a .code)) (now (a .kinds)) (now (a .words)) in
+    let l = method (now (a .code)) (now (a .kinds)) (now (a .words)) in
     back-sizes l (now (a .slots)) (now (a .log)) (now (a .state)) (c .before .before .before .if1 .left) (sizes-no _ (sym (c .before .sizes-fit .ensures) ∙ not-true _ (c .if2 .taken)))
 
 read-state-requires : tie.Need-read-state-requires
@@ -47,7 +47,7 @@ same-length-3 c = search needs
 returns-3 : tie.Need-returns-3
 returns-3 c =
     let a = c .before .before .before .before .before .before .before .before .before .before .before .before .before .before .before .before .before .before .before .before .args in
-    let l = lent (now (a .code)) (now (a .kinds)) (now (a .words)) in
+    let l = method (now (a .code)) (now (a .kinds)) (now (a .words)) in
     back-made l (now (a .slots)) (now (a .log)) (now (a .state)) [] (is-passed _ (sym (c .before .before .before .before .before .before .before .before .before .before .before .sizes-fit .ensures) ∙ not-false _ (c .before .before .before .before .before .before .before .before .before .before .if2 .left))) _ _ _ _ (now (a .log)) _ [] (c .before .before .leave .ensures .0) (c .before .before .leave .ensures .1) (c .before .before .before .before .before .before .before .before .before .before .before .before .before .if1 .left) (rw (c .before .before .before .before .before .before .before .read-state .ensures) at (c .before .before .before .before .before .before .back .ensures))
 
 pub workbook-back-spec : {M : Type 1} → statement M

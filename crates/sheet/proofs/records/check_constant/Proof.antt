@@ -1,12 +1,12 @@
--- `ask_constant` meets its contract. Assumes nothing.
+-- `check_constant` meets its contract. Assumes nothing.
 use mathlib.Core.Path.{sym, ap, _∙_}
 use denote.Ref.{now}
 use borrow.Author.Tests.{not-true, not-false}
 use Rattle.rules.proofs.Sheet.{tag-unfit, index-used, index-past, constant-read}
 use Rattle.sheet.specs.Records.{recordAnswer}
 use borrow.Author.Needs.{needs}
-use Rattle.sheet.proofs.records.ask_constant.Statement.{statement}
-use Rattle.sheet.proofs.records.ask_constant.Tie as tie
+use Rattle.sheet.proofs.records.check_constant.Statement.{statement}
+use Rattle.sheet.proofs.records.check_constant.Tie as tie
 
 add-body : tie.Need-add-body
 add-body c = search needs
@@ -68,8 +68,8 @@ returns-4 c =
     let there = rw (c .before .before .last-index .ensures) at (c .before .if3 .left) in
     rw (c .with-constant .ensures, c .before .before .last-index .ensures) (sym (ap recordAnswer (constant-read sheet (a .at) (a .p) suits above there)))
 
-pub ask-constant-spec : {M : Type 1} → statement M
-ask-constant-spec =
+pub check-constant-spec : {M : Type 1} → statement M
+check-constant-spec =
     tie.close
     (tie.spec
     add-body

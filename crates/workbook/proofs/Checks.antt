@@ -7,10 +7,10 @@ use native.Mathlib.Omega.{arith}
 use lib.Dec.{leb}
 use lib.ListN.{length, getD}
 use borrow.Author.Tests.{leb-true, lt-leb, le-leb}
-use Rattle.rules.specs.Asked.{Asked, passed, refused, _else_, _>>_, isPassed}
+use Rattle.rules.specs.Check.{Check, passed, refused, _else_, _>>_, isPassed}
 use Rattle.rules.specs.History.{Out}
-use Rattle.rules.proofs.Asked.{first-passed, last-passed, last-asked, is-passed}
-use Rattle.workbook.specs.StateWords.{lengthsAsked, sizesAsked}
+use Rattle.rules.proofs.Check.{first-passed, last-passed, last-asked, is-passed}
+use Rattle.workbook.specs.StateWords.{lengthsCheck, sizesCheck}
 use Rattle.workbook.specs.Calls.{unchanged, callBy}
 
 -- two questions whose no is 1
@@ -23,48 +23,48 @@ two-no true true e = let z : _≡_ {A = ℕ} 0 1 = cc in absurd (omega arith)
 -- ---- the lengths
 
 module _ (state answer : List ℕ) (n : ℕ) where
-  pub short-state : length state < 6 → false ≡ isPassed (lengthsAsked state answer n)
-  unfolding lengthsAsked _else_ _>>_
+  pub short-state : length state < 6 → false ≡ isPassed (lengthsCheck state answer n)
+  unfolding lengthsCheck _else_ _>>_
   short-state h = simp (lt-leb _ _ h)
 
-  pub long-state : 6 ≤ length state → leb n (length answer) ≡ isPassed (lengthsAsked state answer n)
-  unfolding lengthsAsked _else_ _>>_
+  pub long-state : 6 ≤ length state → leb n (length answer) ≡ isPassed (lengthsCheck state answer n)
+  unfolding lengthsCheck _else_ _>>_
   long-state h = simp (le-leb _ _ h) (last-asked _ 1)
 
-  pub lengths-no : isPassed (lengthsAsked state answer n) ≡ false → lengthsAsked state answer n ≡ refused 1
-  unfolding lengthsAsked
+  pub lengths-no : isPassed (lengthsCheck state answer n) ≡ false → lengthsCheck state answer n ≡ refused 1
+  unfolding lengthsCheck
   lengths-no e = two-no _ _ e
 
-  pub lengths-yes : isPassed (lengthsAsked state answer n) ≡ true → (6 ≤ length state) × (n ≤ length answer)
-  unfolding lengthsAsked
+  pub lengths-yes : isPassed (lengthsCheck state answer n) ≡ true → (6 ≤ length state) × (n ≤ length answer)
+  unfolding lengthsCheck
   lengths-yes e =
-      let a = first-passed _ 1 _ (is-passed (lengthsAsked state answer n) e) in
+      let a = first-passed _ 1 _ (is-passed (lengthsCheck state answer n) e) in
       (leb-true _ _ (a .0), leb-true _ _ (last-passed _ 1 (a .1)))
 
 -- ---- the sizes
 
 module _ (ws : List ℕ) where
-  pub stack-large : 65535 < getD ws 0 0 → false ≡ isPassed (sizesAsked ws)
-  unfolding sizesAsked _else_ _>>_
+  pub stack-large : 65535 < getD ws 0 0 → false ≡ isPassed (sizesCheck ws)
+  unfolding sizesCheck _else_ _>>_
   stack-large h = simp (lt-leb _ _ h)
 
-  pub stack-fits : getD ws 0 0 ≤ 65535 → leb (getD ws 1 0) 65535 ≡ isPassed (sizesAsked ws)
-  unfolding sizesAsked _else_ _>>_
+  pub stack-fits : getD ws 0 0 ≤ 65535 → leb (getD ws 1 0) 65535 ≡ isPassed (sizesCheck ws)
+  unfolding sizesCheck _else_ _>>_
   stack-fits h = simp (le-leb _ _ h) (last-asked _ 1)
 
-  pub sizes-no : isPassed (sizesAsked ws) ≡ false → sizesAsked ws ≡ refused 1
-  unfolding sizesAsked
+  pub sizes-no : isPassed (sizesCheck ws) ≡ false → sizesCheck ws ≡ refused 1
+  unfolding sizesCheck
   sizes-no e = two-no _ _ e
 
-  pub sizes-yes : isPassed (sizesAsked ws) ≡ true → (getD ws 0 0 ≤ 65535) × (getD ws 1 0 ≤ 65535)
-  unfolding sizesAsked
+  pub sizes-yes : isPassed (sizesCheck ws) ≡ true → (getD ws 0 0 ≤ 65535) × (getD ws 1 0 ≤ 65535)
+  unfolding sizesCheck
   sizes-yes e =
-      let a = first-passed _ 1 _ (is-passed (sizesAsked ws) e) in
+      let a = first-passed _ 1 _ (is-passed (sizesCheck ws) e) in
       (leb-true _ _ (a .0), leb-true _ _ (last-passed _ 1 (a .1)))
 
 -- ---- a call
 
-module _ (slots log state answer : List ℕ) (o : Out) (x y : Asked (Unit {0})) where
+module _ (slots log state answer : List ℕ) (o : Out) (x y : Check (Unit {0})) where
   pub first-no : x ≡ refused 1 → unchanged slots log state answer 1 ≡ callBy slots log state answer o (x >> y)
   unfolding _>>_
   first-no e = rw e

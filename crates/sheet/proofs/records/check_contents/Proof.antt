@@ -1,8 +1,8 @@
--- `ask_contents` meets its contract. Assumes nothing.
-use Rattle.rules.specs.Sheet.{contentsAsked}
+-- `check_contents` meets its contract. Assumes nothing.
+use Rattle.rules.specs.Sheet.{contentsCheck}
 use borrow.Author.Needs.{needs}
-use Rattle.sheet.proofs.records.ask_contents.Statement.{statement}
-use Rattle.sheet.proofs.records.ask_contents.Tie as tie
+use Rattle.sheet.proofs.records.check_contents.Statement.{statement}
+use Rattle.sheet.proofs.records.check_contents.Tie as tie
 
 add-body : tie.Need-add-body
 add-body c = search needs
@@ -37,33 +37,33 @@ with-code-requires c κs = search needs
 enum-told-3 : tie.Need-enum-told-3
 enum-told-3 c = search needs
 
-ask-constant-requires : tie.Need-ask-constant-requires
-ask-constant-requires c κs = search needs
+check-constant-requires : tie.Need-check-constant-requires
+check-constant-requires c κs = search needs
 
 enum-told-4 : tie.Need-enum-told-4
 enum-told-4 c = search needs
 
-ask-arguments-requires : tie.Need-ask-arguments-requires
-ask-arguments-requires c κs = search needs
+check-arguments-requires : tie.Need-check-arguments-requires
+check-arguments-requires c κs = search needs
 
 returns : tie.Need-returns
-unfolding contentsAsked
+unfolding contentsCheck
 returns c = simp (c .before .before .before .enum-told .given .1, ← c .before .before .read-code-u16 .ensures, ← c .before .read-code-u162 .ensures, ← c .with-limits .ensures)
 
 returns-2 : tie.Need-returns-2
-unfolding contentsAsked
+unfolding contentsCheck
 returns-2 c = simp (c .before .before .enum-told2 .given .1, ← c .before .body-length .ensures, ← c .with-code .ensures)
 
 returns-3 : tie.Need-returns-3
-unfolding contentsAsked
-returns-3 c = simp (c .before .enum-told3 .given .1, ← c .ask-constant .ensures)
+unfolding contentsCheck
+returns-3 c = simp (c .before .enum-told3 .given .1, ← c .check-constant .ensures)
 
 returns-4 : tie.Need-returns-4
-unfolding contentsAsked
-returns-4 c = simp (c .before .enum-told4 .given .1, ← c .ask-arguments .ensures)
+unfolding contentsCheck
+returns-4 c = simp (c .before .enum-told4 .given .1, ← c .check-arguments .ensures)
 
-pub ask-contents-spec : {M : Type 1} → statement M
-ask-contents-spec =
+pub check-contents-spec : {M : Type 1} → statement M
+check-contents-spec =
     tie.close
     (tie.spec
     add-body
@@ -77,9 +77,9 @@ ask-contents-spec =
     cast-with-code
     with-code-requires
     enum-told-3
-    ask-constant-requires
+    check-constant-requires
     enum-told-4
-    ask-arguments-requires
+    check-arguments-requires
     returns
     returns-2
     returns-3

@@ -1,10 +1,10 @@
--- `ask_frame` meets its contract: a law of the questions a return. Assumes nothing.
+-- `check_frame` meets its contract: a law of the questions a return. Assumes nothing.
 use mathlib.Core.Path.{sym, ap}
 use Rattle.rules.proofs.Questions.{unpaired, long-pool, no-room, no-code, long-code, outside, too-deep, frame-passed}
 use Rattle.frame.specs.FrameAnswer.{frameAnswer}
 use borrow.Author.Needs.{needs}
-use Rattle.frame.proofs.questions.ask_frame.Statement.{statement}
-use Rattle.frame.proofs.questions.ask_frame.Tie as tie
+use Rattle.frame.proofs.questions.check_frame.Statement.{statement}
+use Rattle.frame.proofs.questions.check_frame.Tie as tie
 
 returns : tie.Need-returns
 returns c = sym (ap frameAnswer (unpaired _ _ _ (c .if1 .taken)))
@@ -75,8 +75,8 @@ returns-8 c =
       deep = c .if7 .left;
     }))
 
-pub ask-frame-spec : {M : Type 1} → statement M
-ask-frame-spec =
+pub check-frame-spec : {M : Type 1} → statement M
+check-frame-spec =
     tie.close
     (tie.spec
     returns

@@ -6,17 +6,17 @@ use native.Mathlib.Nat.{sub-zero}
 use lib.ListN.{length}
 use denote.Ref.{now}
 use borrow.Author.Tests.{eq-eqb, ne-eqb}
-use Rattle.rules.specs.Asked.{_else_, _>>_}
-use Rattle.rules.specs.Sheet.{readFrom, sheetAsked}
+use Rattle.rules.specs.Check.{_else_, _>>_}
+use Rattle.rules.specs.Sheet.{readFrom, sheetCheck}
 use Rattle.rules.proofs.Sheet.{read-end, next-record, bad-record, record-there}
 use Rattle.sheet.specs.Records.{recordAnswer}
 use Rattle.sheet.proofs.Answers.{record-read, record-refused}
 use borrow.Author.Needs.{needs}
-use Rattle.sheet.proofs.checking.check.Statement.{statement}
-use Rattle.sheet.proofs.checking.check.Tie as tie
+use Rattle.sheet.proofs.checking.check_sheet.Statement.{statement}
+use Rattle.sheet.proofs.checking.check_sheet.Tie as tie
 
 abbrev Inv-loop : tie.InvT-loop
-Inv-loop sheet p₀ at₀ p at = (at ≤ length sheet) × (readFrom (length sheet - at) sheet at p ≡ sheetAsked sheet)
+Inv-loop sheet p₀ at₀ p at = (at ≤ length sheet) × (readFrom (length sheet - at) sheet at p ≡ sheetCheck sheet)
 
 abbrev μ-loop : tie.MeasureT-loop
 μ-loop sheet p₀ at₀ p at = length sheet - at
@@ -25,11 +25,11 @@ unread-requires : tie.Need-unread-requires Inv-loop μ-loop
 unread-requires c κs = search needs
 
 loop-holds : tie.Need-loop-holds Inv-loop μ-loop
-unfolding sheetAsked
+unfolding sheetCheck
 loop-holds c = (omega arith, rw (c .unread .ensures, sub-zero (length (now (c .before .before .args .sheet)))))
 
-ask-record-requires : tie.Need-ask-record-requires Inv-loop μ-loop
-ask-record-requires c κs = search needs
+check-record-requires : tie.Need-check-record-requires Inv-loop μ-loop
+check-record-requires c κs = search needs
 
 enum-known-record : tie.Need-enum-known-record Inv-loop μ-loop
 enum-known-record c = search needs
@@ -41,7 +41,7 @@ returns : tie.Need-returns Inv-loop μ-loop
 returns c =
     let t = c .before .before .before .before .loop in
     let sheet = now (c .before .before .before .before .before .before .before .args .sheet) in
-    let bad = record-refused _ _ (sym (c .enum-told .given .1) ∙ c .before .before .ask-record .ensures) in
+    let bad = record-refused _ _ (sym (c .enum-told .given .1) ∙ c .before .before .check-record .ensures) in
     rw (c .enum-told .given .1) (sym (ap recordAnswer (sym (t .inv .1) ∙ bad-record sheet (t .at) (t .p) (c .before .before .before .loop-test .taken) _ bad)))
 
 add-at : tie.Need-add-at Inv-loop μ-loop
@@ -63,7 +63,7 @@ loop-again : tie.Need-loop-again Inv-loop μ-loop
 loop-again c =
     let t = c .before .before .before .before .before .before .loop in
     let sheet = now (c .before .before .before .before .before .before .before .before .before .args .sheet) in
-    let read = record-read _ _ (sym (c .before .before .«record» .given .1) ∙ c .before .before .before .before .ask-record .ensures) in
+    let read = record-read _ _ (sym (c .before .before .«record» .given .1) ∙ c .before .before .before .before .check-record .ensures) in
     rw (c .body-length .ensures) (record-there sheet (t .at) (t .p) _ read, sym (next-record sheet (t .at) (t .p) (c .before .before .before .before .before .loop-test .taken) _ read) ∙ t .inv .1)
 
 returns-2 : tie.Need-returns-2 Inv-loop μ-loop
@@ -80,15 +80,15 @@ returns-3 c =
     let sheet = now (c .before .before .before .before .before .before .args .sheet) in
     sym (ap recordAnswer (sym (t .inv .1) ∙ read-end sheet _ (t .at) (t .p) (c .before .before .loop-test .left)) ∙ simp (ne-eqb _ _ (c .if1 .left)))
 
-pub check-spec : {M : Type 1} → statement M
-check-spec =
+pub check-sheet-spec : {M : Type 1} → statement M
+check-sheet-spec =
     tie.close
     (tie.spec
     Inv-loop
     μ-loop
     unread-requires
     loop-holds
-    ask-record-requires
+    check-record-requires
     enum-known-record
     enum-told
     returns

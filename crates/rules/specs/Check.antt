@@ -3,28 +3,28 @@ use Prim.Native.Nat.{ℕ}
 use mathlib.Core.Bool.{Bool, true, false}
 use lib.Dec.{ltb, leb, eqb}
 
-pub data Asked (A : Type 0) : Type 0 where
-  passed : A → Asked A
-  refused : ℕ → Asked A
+pub data Check (A : Type 0) : Type 0 where
+  passed : A → Check A
+  refused : ℕ → Check A
 
 infix 4 _≤ⁿ_ _<ⁿ_ _=ⁿ_
 infix 2 _else_
 infixr 1 _>>=_ _>>_
 -- `test else n`: where the test fails, n
-unfoldable pub _else_ : Bool → ℕ → Asked (Unit {0})
+unfoldable pub _else_ : Bool → ℕ → Check (Unit {0})
 true else n = passed tt
 false else n = refused n
 
-unfoldable pub _>>=_ : {A B : Type 0} → Asked A → (A → Asked B) → Asked B
+unfoldable pub _>>=_ : {A B : Type 0} → Check A → (A → Check B) → Check B
 _>>=_ (passed a) f = f a
 _>>=_ (refused n) f = refused n
 
-unfoldable pub _>>_ : {A B : Type 0} → Asked A → Asked B → Asked B
+unfoldable pub _>>_ : {A B : Type 0} → Check A → Check B → Check B
 _>>_ (passed a) b = b
 _>>_ (refused n) b = refused n
 
 -- whether there is a yes to every question
-abbrev pub isPassed : {A : Type 0} → Asked A → Bool
+abbrev pub isPassed : {A : Type 0} → Check A → Bool
 isPassed (passed a) = true
 isPassed (refused n) = false
 

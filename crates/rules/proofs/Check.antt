@@ -3,15 +3,15 @@ use Prim.Native.Nat.{ℕ}
 use mathlib.Core.Path.{_≡_, refl}
 use mathlib.Core.Bool.{Bool, true, false, _&&_, cond}
 use native.Mathlib.Omega.{arith}
-use Rattle.rules.specs.Asked.{Asked, passed, refused, _else_, _>>=_, _>>_, isPassed}
+use Rattle.rules.specs.Check.{Check, passed, refused, _else_, _>>=_, _>>_, isPassed}
 
 -- a row that is passed has a yes at each question
-pub first-passed : (t : Bool) (n : ℕ) (x : Asked (Unit {0})) → ((t else n) >> x) ≡ passed tt → (t ≡ true) × (x ≡ passed tt)
+pub first-passed : (t : Bool) (n : ℕ) (x : Check (Unit {0})) → ((t else n) >> x) ≡ passed tt → (t ≡ true) × (x ≡ passed tt)
 unfolding _else_ _>>_
 first-passed true n x e = (refl, e)
 first-passed false n x e = let z : _≡_ {A = ℕ} 0 1 = cc in absurd (omega arith)
 
-pub both-passed : (y x : Asked (Unit {0})) → (y >> x) ≡ passed tt → (y ≡ passed tt) × (x ≡ passed tt)
+pub both-passed : (y x : Check (Unit {0})) → (y >> x) ≡ passed tt → (y ≡ passed tt) × (x ≡ passed tt)
 unfolding _>>_
 both-passed (passed t) x e = (refl, e)
 both-passed (refused n) x e = let z : _≡_ {A = ℕ} 0 1 = cc in absurd (omega arith)
@@ -26,7 +26,7 @@ unfolding _else_
 last-asked true n = refl
 last-asked false n = refl
 
-pub is-passed : (x : Asked (Unit {0})) → isPassed x ≡ true → x ≡ passed tt
+pub is-passed : (x : Check (Unit {0})) → isPassed x ≡ true → x ≡ passed tt
 is-passed (passed t) e = refl
 is-passed (refused n) e = let z : _≡_ {A = ℕ} 0 1 = cc in absurd (omega arith)
 
@@ -34,7 +34,7 @@ pub and-true : (a b : Bool) → (a && b) ≡ true → (a ≡ true) × (b ≡ tru
 and-true true b e = (refl, e)
 and-true false b e = let z : _≡_ {A = ℕ} 0 1 = cc in absurd (omega arith)
 
-pub bind-same : {A B : Type 0} (y : Asked B) (f g : B → Asked A) → ((b : B) → f b ≡ g b) → (y >>= f) ≡ (y >>= g)
+pub bind-same : {A B : Type 0} (y : Check B) (f g : B → Check A) → ((b : B) → f b ≡ g b) → (y >>= f) ≡ (y >>= g)
 unfolding _>>=_
 bind-same (passed b) f g h = h b
 bind-same (refused n) f g h = refl
@@ -42,29 +42,29 @@ bind-same (refused n) f g h = refl
 -- ---- what holds of what passes
 
 module _ {A : Type 0} (P : A → Type 0) where
-  unfoldable pub Holds : Asked A → Type 0
+  unfoldable pub Holds : Check A → Type 0
   Holds (passed a) = P a
   Holds (refused n) = Unit {0}
 
-  pub asked : (t : Bool) (n : ℕ) (x : Asked A) → (t ≡ true → Holds x) → Holds ((t else n) >> x)
+  pub asked : (t : Bool) (n : ℕ) (x : Check A) → (t ≡ true → Holds x) → Holds ((t else n) >> x)
   unfolding Holds _else_ _>>_
   asked true n x h = h refl
   asked false n x h = tt
 
-  pub after : (y : Asked (Unit {0})) (x : Asked A) → (y ≡ passed tt → Holds x) → Holds (y >> x)
+  pub after : (y : Check (Unit {0})) (x : Check A) → (y ≡ passed tt → Holds x) → Holds (y >> x)
   unfolding Holds _>>_
   after (passed u) x h = h refl
   after (refused n) x h = tt
 
-  pub bound : {B : Type 0} (y : Asked B) (f : B → Asked A) → ((b : B) → y ≡ passed b → Holds (f b)) → Holds (y >>= f)
+  pub bound : {B : Type 0} (y : Check B) (f : B → Check A) → ((b : B) → y ≡ passed b → Holds (f b)) → Holds (y >>= f)
   unfolding Holds _>>=_
   bound (passed b) f h = h b refl
   bound (refused n) f h = tt
 
-  pub held : (y : Asked A) (a : A) → Holds y → y ≡ passed a → P a
+  pub held : (y : Check A) (a : A) → Holds y → y ≡ passed a → P a
   unfolding Holds
   held y a h e = rw e at h
 
-  pub either : (t : Bool) (x y : Asked A) → Holds x → Holds y → Holds (cond t x y)
+  pub either : (t : Bool) (x y : Check A) → Holds x → Holds y → Holds (cond t x y)
   either true x y h k = h
   either false x y h k = k

@@ -1,4 +1,4 @@
--- `ask_record` meets its contract. Assumes nothing.
+-- `check_record` meets its contract. Assumes nothing.
 use mathlib.Core.Path.{sym, ap, _∙_}
 use denote.Ref.{now}
 use borrow.Author.Tests.{not-true, not-false}
@@ -9,8 +9,8 @@ use Rattle.rules.proofs.Sheet.{head-cut, body-cut, unknown, disordered, wrong-l
 use Rattle.sheet.specs.Records.{recordAnswer}
 use Rattle.sheet.proofs.Answers.{mark-known, mark-unknown}
 use borrow.Author.Needs.{needs}
-use Rattle.sheet.proofs.records.ask_record.Statement.{statement}
-use Rattle.sheet.proofs.records.ask_record.Tie as tie
+use Rattle.sheet.proofs.records.check_record.Statement.{statement}
+use Rattle.sheet.proofs.records.check_record.Tie as tie
 
 add-if1 : tie.Need-add-if1
 add-if1 c = search needs
@@ -82,8 +82,8 @@ returns-5 c =
     let ordered = sym (c .before .before .before .may-follow .ensures) ∙ not-false _ (c .before .before .if3 .left) in
     sym (ap recordAnswer (wrong-length sheet (a .at) (a .p) (c .before .before .before .before .before .before .before .before .before .before .before .if1 .left) there _ known ordered (rw (c .before .before .before .before .before .before .before .before .before .before .body-length .ensures) at (sym (c .before .right-length .ensures) ∙ not-true _ (c .if4 .taken)))))
 
-ask-contents-requires : tie.Need-ask-contents-requires
-ask-contents-requires c κs = search needs
+check-contents-requires : tie.Need-check-contents-requires
+check-contents-requires c κs = search needs
 
 returns-6 : tie.Need-returns-6
 returns-6 c =
@@ -93,10 +93,10 @@ returns-6 c =
     let known = mark-known (knownMark (u16 sheet (a .at))) _ (rw (c .before .before .before .before .before .before .before .before .before .read-code-u16 .ensures) at (sym (c .before .before .before .before .before .before .known .given .1) ∙ c .before .before .before .before .before .before .before .before .known-mark .ensures)) in
     let ordered = sym (c .before .before .before .before .may-follow .ensures) ∙ not-false _ (c .before .before .before .if3 .left) in
     let right = rw (c .before .before .before .before .before .before .before .before .before .before .before .body-length .ensures) at (sym (c .before .before .right-length .ensures) ∙ not-false _ (c .before .if4 .left)) in
-    c .ask-contents .ensures ∙ sym (ap recordAnswer (to-contents sheet (a .at) (a .p) (c .before .before .before .before .before .before .before .before .before .before .before .before .if1 .left) there _ known ordered right))
+    c .check-contents .ensures ∙ sym (ap recordAnswer (to-contents sheet (a .at) (a .p) (c .before .before .before .before .before .before .before .before .before .before .before .before .if1 .left) there _ known ordered right))
 
-pub ask-record-spec : {M : Type 1} → statement M
-ask-record-spec =
+pub check-record-spec : {M : Type 1} → statement M
+check-record-spec =
     tie.close
     (tie.spec
     add-if1
@@ -115,5 +115,5 @@ ask-record-spec =
     returns-4
     right-length-requires
     returns-5
-    ask-contents-requires
+    check-contents-requires
     returns-6)

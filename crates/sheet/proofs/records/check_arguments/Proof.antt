@@ -1,11 +1,11 @@
--- `ask_arguments` meets its contract. Assumes nothing.
+-- `check_arguments` meets its contract. Assumes nothing.
 use mathlib.Core.Path.{sym, ap}
 use denote.Ref.{now}
 use Rattle.rules.proofs.Sheet.{too-many, arguments-read}
 use Rattle.sheet.specs.Records.{recordAnswer}
 use borrow.Author.Needs.{needs}
-use Rattle.sheet.proofs.records.ask_arguments.Statement.{statement}
-use Rattle.sheet.proofs.records.ask_arguments.Tie as tie
+use Rattle.sheet.proofs.records.check_arguments.Statement.{statement}
+use Rattle.sheet.proofs.records.check_arguments.Tie as tie
 
 body-length-requires : tie.Need-body-length-requires
 body-length-requires c κs = search needs
@@ -29,8 +29,8 @@ returns-2 c =
     let a = c .before .before .before .before .before .args in
     rw (c .with-arguments .ensures, c .before .before .before .body-length .ensures) (sym (ap recordAnswer (arguments-read (now (a .sheet)) (a .at) (a .p) (rw (c .before .before .before .body-length .ensures) at (c .before .if1 .left)))))
 
-pub ask-arguments-spec : {M : Type 1} → statement M
-ask-arguments-spec =
+pub check-arguments-spec : {M : Type 1} → statement M
+check-arguments-spec =
     tie.close
     (tie.spec
     body-length-requires
