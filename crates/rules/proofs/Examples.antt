@@ -15,7 +15,7 @@ use Rattle.rules.specs.Check.{_else_, _>>_, _>>=_}
 use Rattle.rules.specs.Instructions.{rowOf}
 use Rattle.rules.specs.Fetch.{wideCheck, tableCheck, lookupCheck, offsetsFrom, pairsFrom, fetched, aligned}
 use Rattle.rules.specs.Questions.{Method, method, frameCheck, needsCheck}
-use Rattle.rules.specs.Step.{decideOf}
+use Rattle.rules.specs.Step.{decideFrame, decideOf, Machine, coreMachine}
 use Rattle.rules.specs.Run.{Ran, runFrom, runOf}
 
 -- ---- the step and the run on given lists and numbers, open to computation
@@ -40,13 +40,13 @@ changes pc depth first ws =
     })
 
 unfoldable pub decided : Method → State → List ℕ → Decision
-unfolding decideOf frameCheck fetched needsCheck wideCheck tableCheck lookupCheck offsetsFrom pairsFrom rowOf _else_ _>>_ _>>=_
+unfolding decideFrame frameCheck fetched needsCheck wideCheck tableCheck lookupCheck offsetsFrom pairsFrom rowOf _else_ _>>_ _>>=_
     signed low bitwise flipped nearest Ieee.ofBits Ieee.toBits Ieee.ofInt Ieee.toSigned Ieee.round Ieee.add Ieee.sub Ieee.mul Ieee.div Ieee.rem Ieee.lt Ieee.eq
 decided l s slots = decideOf l s slots
 
 unfoldable pub ran : Method → ℕ → State → List ℕ → Ran
 unfolding runOf runFrom decided
-ran l budget s slots = runOf l budget s slots
+ran l budget s slots = runOf (coreMachine l) budget s slots
 
 -- one instruction of one byte, on an operand stack that holds these words, lowest first, and room for eight
 unfoldable pub on : ℕ → List ℕ → Decision

@@ -18,20 +18,20 @@ use Rattle.rules.specs.Check.{Check, passed, refused}
 use Rattle.rules.specs.Forms.{Result, pushes, stores, divides, branches, returns}
 use Rattle.rules.specs.Instructions.{rowOf}
 use Rattle.rules.specs.Fetch.{Instruction, fetched}
-use Rattle.rules.specs.Questions.{Method, pushed, frameCheck, needsCheck}
-use Rattle.rules.specs.Step.{base, firstPlace, inside, ordinary, following, target, outcome, decision, decideOf, moved, updateWords, written}
+use Rattle.rules.specs.Questions.{Method, frameSize, pushed, frameCheck, needsCheck}
+use Rattle.rules.specs.Step.{base, firstPlace, inside, ordinary, following, target, outcome, decision, decideFrame, moved, updateWords, written}
 use Rattle.rules.proofs.Check.{Holds, asked, after, bound, held, either}
 use Rattle.rules.proofs.Rows.{of-row, small, small-row, few-pushed, one-named, few-named, local-within}
 use Rattle.rules.proofs.Questions.{Framed, framed, Needed, needed}
 use Rattle.rules.proofs.Step.{result}
 use Rattle.rules.proofs.Fetched.{fetched-sound}
 
-pub record Legal (l : Method) (s : State) (slots : List ℕ) (u : Update) : Type 0 where
-  pub frame-there : Framed l s slots
+pub record Legal (l : Method) (s : State) (n : ℕ) (u : Update) : Type 0 where
+  pub frame-there : Framed l s n
   pub new-pc : u .pc < length (l .code)
   pub new-depth : u .depth ≤ s .«max_stack»
   pub few : u .many ≤ 6
-  pub within : u .first + u .many ≤ s .«max_locals» + s .«max_stack»
+  pub within : u .first + u .many ≤ frameSize s
 
 abbrev pub IfOrdinary : (Update → Type 0) → Decision → Type 0
 IfOrdinary P (Ordinary u) = P u
@@ -52,9 +52,9 @@ fetched-small code pc i e =
 
 -- ---- an ordinary step
 
-module _ (l : Method) (s : State) (slots : List ℕ) where
+module _ (l : Method) (n : ℕ) (s : State) where
   Fine : Decision → Type 0
-  Fine d = IfOrdinary (Legal l s slots) d
+  Fine d = IfOrdinary (Legal l s n) d
 
   decision-fine : (x : Check Decision) → Holds Fine x → Fine (decision x)
   unfolding Holds Fine
@@ -74,14 +74,14 @@ module _ (l : Method) (s : State) (slots : List ℕ) where
   inside-code (pos k) = asked InCode _ 11 _ (λ t. ltb-true k (length (l .code)) t)
   inside-code (negsuc k) = tt
 
-  module _ (f : Framed l s slots) (i : Instruction) (small : Small i) (n : Needed l s i) where
-    ordinary-fine : (to : ℤ) (at many : ℕ) (ws : List ℕ) → many ≤ 6 → firstPlace at many + many ≤ s .«max_locals» + s .«max_stack» → Holds Fine (ordinary l s i to at many ws)
+  module _ (f : Framed l s n) (i : Instruction) (small : Small i) (needs : Needed l s i) where
+    ordinary-fine : (to : ℤ) (at many : ℕ) (ws : List ℕ) → many ≤ 6 → firstPlace at many + many ≤ frameSize s → Holds Fine (ordinary l s i to at many ws)
     unfolding Holds Fine InCode
     ordinary-fine to at many ws h w =
         bound Fine (inside (l .code) to) _ (λ p e. record {
           frame-there = f;
           new-pc = held InCode (inside (l .code) to) p (inside-code to) e;
-          new-depth = n .fits;
+          new-depth = needs .fits;
           few = h;
           within = w;
         })
@@ -89,8 +89,8 @@ module _ (l : Method) (s : State) (slots : List ℕ) where
     pushed-fine : (ws : List ℕ) → Holds Fine (ordinary l s i (following s i) (base s i) (pushed i) ws)
     unfolding Small
     pushed-fine ws =
-        let p = n .pops in
-        let q = n .fits in
+        let p = needs .pops in
+        let q = needs .fits in
         ordinary-fine (following s i) (base s i) (pushed i) ws (few-pushed (i .rule) small) (placed (base s i) (pushed i) _ (λ _. omega arith))
 
     stored-fine : (ws : List ℕ) → Holds Fine (ordinary l s i (following s i) (i .operand .index) (placesOf (i .rule .locals)) ws)
@@ -98,7 +98,7 @@ module _ (l : Method) (s : State) (slots : List ℕ) where
     stored-fine ws =
         let one = one-named (i .rule) small in
         ordinary-fine (following s i) (i .operand .index) (placesOf (i .rule .locals)) ws (few-named one) (placed _ _ _ (λ h.
-        let c = local-within (s .«max_locals») (i .operand .index) one (n .local-there) h in omega arith))
+        let c = local-within (s .«max_locals») (i .operand .index) one (needs .local-there) h in omega arith))
 
     outcome-fine : (r : Result) → Holds Fine (outcome l s i r)
     unfolding Holds Fine Small
@@ -109,32 +109,32 @@ module _ (l : Method) (s : State) (slots : List ℕ) where
     outcome-fine (returns v) = tt
 
   -- THE LAW: an ordinary step is legal
-  pub decide-legal : IfOrdinary (Legal l s slots) (decideOf l s slots)
-  unfolding decideOf Fine
-  decide-legal = decision-fine _
-      (after Fine (frameCheck l s slots) _ (λ e1.
+  pub decide-legal : (words : List ℕ) → IfOrdinary (Legal l s n) (decideFrame l n s words)
+  unfolding decideFrame Fine
+  decide-legal words = decision-fine _
+      (after Fine (frameCheck l s n) _ (λ e1.
       bound Fine (fetched (l .code) (s .pc)) _ (λ i e2.
       after Fine (needsCheck l s i) _ (λ e3.
-      outcome-fine (framed l s slots e1) i (fetched-small (l .code) (s .pc) i e2) (needed l s i e3) (result l s slots i)))))
+      outcome-fine (framed l s n e1) i (fetched-small (l .code) (s .pc) i e2) (needed l s i e3) (result l s words i)))))
 
 -- ---- and so the frame stands after it
 
-module _ (l : Method) (s : State) (slots : List ℕ) (u : Update) (legal : Legal l s slots u) where
+module _ (l : Method) (s : State) (slots : List ℕ) (u : Update) (legal : Legal l s (length slots) u) where
   pub written-length : length (written u slots) ≡ length slots
   written-length = let f = legal .frame-there in length-paste slots (u .first) (updateWords u) (u .many) (omega (arith, legal .within, f .room)) (legal .few)
 
-  pub still-framed : (count : ℕ) → Framed l (moved s (u .pc) (u .depth) count) (written u slots)
-  still-framed count =
-      let f = legal .frame-there in
-      record {
-        paired = f .paired;
-        pool = f .pool;
-        room = omega (arith, f .room, written-length);
-        some-code = f .some-code;
-        short-code = f .short-code;
-        in-code = legal .new-pc;
-        deep = legal .new-depth;
-      }
+pub still-framed : (l : Method) (s : State) (n : ℕ) (u : Update) → Legal l s n u → (count : ℕ) → Framed l (moved s (u .pc) (u .depth) count) n
+still-framed l s n u legal count =
+    let f = legal .frame-there in
+    record {
+      paired = f .paired;
+      pool = f .pool;
+      room = f .room;
+      some-code = f .some-code;
+      short-code = f .short-code;
+      in-code = legal .new-pc;
+      deep = legal .new-depth;
+    }
 
-pub ordinary-legal : (l : Method) (s : State) (slots : List ℕ) (u : Update) → decideOf l s slots ≡ Ordinary u → Legal l s slots u
-ordinary-legal l s slots u e = subst (IfOrdinary (Legal l s slots)) e (decide-legal l s slots)
+pub ordinary-legal : (l : Method) (s : State) (n : ℕ) (words : List ℕ) (u : Update) → decideFrame l n s words ≡ Ordinary u → Legal l s n u
+ordinary-legal l s n words u e = subst (IfOrdinary (Legal l s n)) e (decide-legal l n s words)

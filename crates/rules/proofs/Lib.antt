@@ -6,13 +6,16 @@ pub mod Step
 pub mod Fetched
 pub mod Legal
 pub mod Numbers
+pub mod Lawful
 pub mod Run
 pub mod History
 pub mod Sheet
-pub mod Loaded
+pub mod AcceptedLoad
 pub mod Pasted
+pub mod Scratch
 pub mod OnePress
 pub mod Walk
+pub mod FromSheet
 pub mod Replay
 -- Examples, which only the checker reads
 mod Examples

@@ -17,7 +17,7 @@ use Rattle.rules.specs.Forms.{Row, Operand, Format, alone, implied, byte
 use Rattle.rules.specs.Instructions.{rowOf}
 use Rattle.rules.specs.Fetch.{u8, Instruction, coreRow, core, sized, wideOpcode, wideCheck, tableCheck, lookupCheck, byFormat, fetched}
 use Rattle.rules.specs.Questions.{Method, pushed, frameCheck, needsCheck}
-use Rattle.rules.specs.Step.{base, inside, ordinary, following, target, outcome, decision, decideOf}
+use Rattle.rules.specs.Step.{base, inside, ordinary, following, target, outcome, decision, decideFrame}
 use Rattle.rules.proofs.Step.{result}
 
 -- ---- a row of questions
@@ -58,9 +58,9 @@ module _ {A : Type 0} (P : A → Type 0) where
 
 -- ---- the questions of a step
 
-frame-numbered : (l : Method) (s : State) (slots : List ℕ) → Numbered Any (frameCheck l s slots)
+frame-numbered : (l : Method) (s : State) (n : ℕ) → Numbered Any (frameCheck l s n)
 unfolding frameCheck
-frame-numbered l s slots =
+frame-numbered l s n =
     asked Any _ 1 _ refl (asked Any _ 1 _ refl (asked Any _ 1 _ refl (asked Any _ 2 _ refl (asked Any _ 2 _ refl (asked Any _ 2 _ refl (last _ 3 refl))))))
 
 core-numbered : (r : Option Row) → Numbered Any (coreRow r)
@@ -100,13 +100,16 @@ module _ (code : List ℕ) (pc : ℕ) where
 
 -- ---- the decision
 
-abbrev pub IfRefused : Decision → Type 0
-IfRefused (Ordinary u) = Unit {0}
-IfRefused (Return v) = Unit {0}
-IfRefused Throw = Unit {0}
-IfRefused (Refused n) = OfStep n
+abbrev pub IfRefused : (ℕ → Type 0) → Decision → Type 0
+IfRefused P (Ordinary u) = Unit {0}
+IfRefused P (Return v) = Unit {0}
+IfRefused P Throw = Unit {0}
+IfRefused P (Refused n) = P n
 
-decision-numbered : (x : Check Decision) → Numbered IfRefused x → IfRefused (decision x)
+abbrev Fine : Decision → Type 0
+Fine d = IfRefused OfStep d
+
+decision-numbered : (x : Check Decision) → Numbered Fine x → Fine (decision x)
 unfolding Numbered
 decision-numbered (passed d) h = h
 decision-numbered (refused n) h = h
@@ -121,30 +124,39 @@ module _ (l : Method) (s : State) where
   inside-numbered (pos n) = asked Any _ 11 _ refl tt
   inside-numbered (negsuc n) = refl
 
-  ordinary-numbered : (i : Instruction) (to : ℤ) (at n : ℕ) (ws : List ℕ) → Numbered IfRefused (ordinary l s i to at n ws)
+  ordinary-numbered : (i : Instruction) (to : ℤ) (at n : ℕ) (ws : List ℕ) → Numbered Fine (ordinary l s i to at n ws)
   unfolding Numbered
-  ordinary-numbered i to at n ws = bound IfRefused (inside (l .code) to) _ (inside-numbered to) (λ pc. tt)
+  ordinary-numbered i to at n ws = bound Fine (inside (l .code) to) _ (inside-numbered to) (λ pc. tt)
 
-  outcome-numbered : (i : Instruction) (r : Result) → Numbered IfRefused (outcome l s i r)
+  outcome-numbered : (i : Instruction) (r : Result) → Numbered Fine (outcome l s i r)
   unfolding Numbered
   outcome-numbered i (pushes ws) = ordinary-numbered i (following s i) (base s i) (pushed i) ws
   outcome-numbered i (stores ws) = ordinary-numbered i (following s i) (i .operand .index) (placesOf (i .rule .locals)) ws
-  outcome-numbered i (divides by ws) = either IfRefused (by =ⁿ 0) _ _ tt (ordinary-numbered i (following s i) (base s i) (pushed i) ws)
+  outcome-numbered i (divides by ws) = either Fine (by =ⁿ 0) _ _ tt (ordinary-numbered i (following s i) (base s i) (pushed i) ws)
   outcome-numbered i (branches t z) = ordinary-numbered i (cond t (target s z) (following s i)) 0 0 []
   outcome-numbered i (returns v) = tt
 
   -- THE LAW
-  pub decide-numbered : (slots : List ℕ) → IfRefused (decideOf l s slots)
-  unfolding decideOf
-  decide-numbered slots = decision-numbered _
-      (after IfRefused (frameCheck l s slots) _ (frame-numbered l s slots)
-      (bound IfRefused (fetched (l .code) (s .pc)) _ (fetch-numbered (l .code) (s .pc)) (λ i.
-      after IfRefused (needsCheck l s i) _ (needs-numbered i) (outcome-numbered i (result l s slots i)))))
+  pub decide-numbered : (n : ℕ) (words : List ℕ) → IfRefused OfStep (decideFrame l n s words)
+  unfolding decideFrame
+  decide-numbered n words = decision-numbered _
+      (after Fine (frameCheck l s n) _ (frame-numbered l s n)
+      (bound Fine (fetched (l .code) (s .pc)) _ (fetch-numbered (l .code) (s .pc)) (λ i.
+      after Fine (needsCheck l s i) _ (needs-numbered i) (outcome-numbered i (result l s words i)))))
 
--- so it is not 14
-pub not-14 : (n : ℕ) → OfStep n → eqb n 14 ≡ false
+-- so it is not 14, which is back's
+abbrev pub Not14 : ℕ → Type 0
+Not14 n = eqb n 14 ≡ false
+
+not-14 : (n : ℕ) → OfStep n → Not14 n
 not-14 n h = go (eqb n 14) refl
   where
     go : (b : Bool) → eqb n 14 ≡ b → b ≡ false
     go true e = let z : ((1 ≤ⁿ 14) && (14 ≤ⁿ 11)) ≡ true = rw (eqb-true n 14 e) at h in let y : _≡_ {A = ℕ} 0 1 = cc in absurd (omega arith)
     go false e = refl
+
+pub never-14 : (d : Decision) → IfRefused OfStep d → IfRefused Not14 d
+never-14 (Ordinary u) h = tt
+never-14 (Return v) h = tt
+never-14 Throw h = tt
+never-14 (Refused n) h = not-14 n h

@@ -13,22 +13,22 @@ use Rattle.rules.specs.Check.{passed, refused, _else_, _>>_, _>>=_}
 use Rattle.rules.specs.Forms.{Row, Operand}
 use Rattle.rules.specs.Instructions.{rowOf}
 use Rattle.rules.specs.Fetch.{Instruction, instruction, operands, u8, u16, s16, sized, widens, wideOpcode, wideCheck, aligned, lowKey, highKey, tableEnd, tableOperand, tableCheck, pairCount, keyPairs, pairsEnd, pairsOperand, rising, lookupCheck, byFormat, fetched}
-use Rattle.rules.specs.Questions.{Method, popped, pushed, localsBelow, constantThere, frameCheck, needsCheck}
+use Rattle.rules.specs.Questions.{Method, frameSize, popped, pushed, localsBelow, constantThere, frameCheck, needsCheck}
 use Rattle.rules.proofs.Check.{first-passed, last-passed}
 
 -- ---- questions 1 to 3
 
-pub record Framed (l : Method) (s : State) (slots : List ℕ) : Type 0 where
+pub record Framed (l : Method) (s : State) (n : ℕ) : Type 0 where
   pub paired : length (l .kinds) ≡ length (l .words)
   pub pool : length (l .kinds) ≤ 65536
-  pub room : s .«max_locals» + s .«max_stack» ≤ length slots
+  pub room : frameSize s ≤ n
   pub some-code : 1 ≤ length (l .code)
   pub short-code : length (l .code) ≤ 65535
   pub in-code : s .pc < length (l .code)
   pub deep : s .depth ≤ s .«max_stack»
 
-module _ (l : Method) (s : State) (slots : List ℕ) where
-  pub framed : frameCheck l s slots ≡ passed tt → Framed l s slots
+module _ (l : Method) (s : State) (n : ℕ) where
+  pub framed : frameCheck l s n ≡ passed tt → Framed l s n
   unfolding frameCheck
   framed e =
       let a = first-passed _ 1 _ e in
@@ -47,43 +47,43 @@ module _ (l : Method) (s : State) (slots : List ℕ) where
         deep = leb-true _ _ (last-passed _ 3 (g .1));
       }
 
-  pub frame-passed : Framed l s slots → frameCheck l s slots ≡ passed tt
+  pub frame-passed : Framed l s n → frameCheck l s n ≡ passed tt
   unfolding frameCheck _else_ _>>_
   frame-passed f = simp (eq-eqb _ _ (f .paired), le-leb _ _ (f .pool), le-leb _ _ (f .room), le-leb _ _ (f .some-code), le-leb _ _ (f .short-code), lt-ltb _ _ (f .in-code), le-leb _ _ (f .deep))
 
   -- 1
-  pub unpaired : (length (l .kinds) ≡ length (l .words) → ⊥) → frameCheck l s slots ≡ refused 1
+  pub unpaired : (length (l .kinds) ≡ length (l .words) → ⊥) → frameCheck l s n ≡ refused 1
   unfolding frameCheck _else_ _>>_
   unpaired h = simp (ne-eqb _ _ h)
 
   module _ (paired : length (l .kinds) ≡ length (l .words)) where
-    pub long-pool : 65536 < length (l .kinds) → frameCheck l s slots ≡ refused 1
+    pub long-pool : 65536 < length (l .kinds) → frameCheck l s n ≡ refused 1
     unfolding frameCheck _else_ _>>_
     long-pool h = simp (eq-eqb _ _ paired, lt-leb _ _ h)
 
     module _ (pool : length (l .kinds) ≤ 65536) where
-      pub no-room : length slots < s .«max_locals» + s .«max_stack» → frameCheck l s slots ≡ refused 1
+      pub no-room : n < frameSize s → frameCheck l s n ≡ refused 1
       unfolding frameCheck _else_ _>>_
       no-room h = simp (eq-eqb _ _ paired, le-leb _ _ pool, lt-leb _ _ h)
 
       -- 2
-      module _ (room : s .«max_locals» + s .«max_stack» ≤ length slots) where
-        pub no-code : length (l .code) < 1 → frameCheck l s slots ≡ refused 2
+      module _ (room : frameSize s ≤ n) where
+        pub no-code : length (l .code) < 1 → frameCheck l s n ≡ refused 2
         unfolding frameCheck _else_ _>>_
         no-code h = simp (eq-eqb _ _ paired, le-leb _ _ pool, le-leb _ _ room, lt-leb _ _ h)
 
         module _ (some-code : 1 ≤ length (l .code)) where
-          pub long-code : 65535 < length (l .code) → frameCheck l s slots ≡ refused 2
+          pub long-code : 65535 < length (l .code) → frameCheck l s n ≡ refused 2
           unfolding frameCheck _else_ _>>_
           long-code h = simp (eq-eqb _ _ paired, le-leb _ _ pool, le-leb _ _ room, le-leb _ _ some-code, lt-leb _ _ h)
 
           module _ (short-code : length (l .code) ≤ 65535) where
-            pub outside : length (l .code) ≤ s .pc → frameCheck l s slots ≡ refused 2
+            pub outside : length (l .code) ≤ s .pc → frameCheck l s n ≡ refused 2
             unfolding frameCheck _else_ _>>_
             outside h = simp (eq-eqb _ _ paired, le-leb _ _ pool, le-leb _ _ room, le-leb _ _ some-code, le-leb _ _ short-code, le-ltb _ _ h)
 
             -- 3
-            pub too-deep : s .pc < length (l .code) → s .«max_stack» < s .depth → frameCheck l s slots ≡ refused 3
+            pub too-deep : s .pc < length (l .code) → s .«max_stack» < s .depth → frameCheck l s n ≡ refused 3
             unfolding frameCheck _else_ _>>_
             too-deep i h = simp (eq-eqb _ _ paired, le-leb _ _ pool, le-leb _ _ room, le-leb _ _ some-code, le-leb _ _ short-code, lt-ltb _ _ i, lt-leb _ _ h)
 

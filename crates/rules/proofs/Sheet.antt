@@ -10,11 +10,10 @@ use borrow.Author.Tests.{leb-true, le-leb, lt-leb, le-ltb, lt-ltb, eqb-true, eq-
 use Rattle.rules.specs.declared.Mark.{Mark}
 use Rattle.rules.specs.declared.Mark.the-variants.{LM, CD, KI, AR}
 use Rattle.rules.specs.declared.Reading.{Reading}
-use Rattle.rules.specs.declared.Load.the-variants as Load
 use Rattle.rules.specs.Check.{Check, passed, refused, _else_, _>>=_, _>>_}
 use Rattle.rules.specs.Fetch.{u8, u16, u32}
-use Rattle.rules.specs.Sheet.{bodyLength, bodyAt, recordEnd, knownMark, follows, rightLength, unread, withConstant, withArguments, poolIndex, poolTag, tagSuits, lastIndex, contentsCheck, recordCheck, endCheck, readFrom, sheetCheck, Pool, withWords, withValue, poolFrom, loadedPool, loadedSlots, loadedState, memoryCheck, loadOf}
-use Rattle.rules.proofs.Check.{Holds, asked, bound, held, either, bind-same}
+use Rattle.rules.specs.Sheet.{bodyLength, bodyAt, recordEnd, knownMark, follows, rightLength, unread, withRecord, poolIndex, poolTag, tagSuits, lastIndex, argumentCount, contentsCheck, recordCheck, endCheck, readFrom, sheetCheck, Pool, withWords, withValue, poolFrom, loadedPool, loadedSlots, acceptedLoad, refusedLoad, memoryCheck, loadOf}
+use Rattle.rules.proofs.Check.{last-passed, Holds, asked, after, bound, held, either, bind-same}
 
 -- ---- a record, question by question
 
@@ -46,9 +45,14 @@ module _ (sheet : List ℕ) (at : ℕ) (p : Reading) where
         unfolding recordCheck _else_ _>>_ _>>=_
         wrong-length h = simp (le-leb _ _ head, le-leb _ _ there, known, ordered, h)
 
-        pub to-contents : rightLength m (bodyLength sheet at) ≡ true → recordCheck sheet at p ≡ contentsCheck sheet at p m
-        unfolding recordCheck _else_ _>>_ _>>=_
-        to-contents h = simp (le-leb _ _ head, le-leb _ _ there, known, ordered, h)
+        module _ (right : rightLength m (bodyLength sheet at) ≡ true) where
+          pub bad-contents : (k : ℕ) → contentsCheck sheet at p m ≡ refused k → recordCheck sheet at p ≡ refused k
+          unfolding recordCheck _else_ _>>_ _>>=_
+          bad-contents k h = simp (le-leb _ _ head, le-leb _ _ there, known, ordered, right, h)
+
+          pub good-contents : contentsCheck sheet at p m ≡ passed tt → recordCheck sheet at p ≡ passed (withRecord sheet at m p)
+          unfolding recordCheck _else_ _>>_ _>>=_
+          good-contents h = simp (le-leb _ _ head, le-leb _ _ there, known, ordered, right, h)
 
   -- 25
   pub tag-unfit : tagSuits (poolTag sheet at) (bodyLength sheet at) ≡ false → contentsCheck sheet at p KI ≡ refused 25
@@ -65,16 +69,16 @@ module _ (sheet : List ℕ) (at : ℕ) (p : Reading) where
       unfolding contentsCheck _else_ _>>_
       index-past h = simp (suits, lt-ltb _ _ above, lt-leb _ _ h)
 
-      pub constant-read : lastIndex sheet at ≤ 65535 → contentsCheck sheet at p KI ≡ passed (withConstant p (lastIndex sheet at))
+      pub constant-read : lastIndex sheet at ≤ 65535 → contentsCheck sheet at p KI ≡ passed tt
       unfolding contentsCheck _else_ _>>_
       constant-read h = simp (suits, lt-ltb _ _ above, le-leb _ _ h)
 
   -- 27
-  pub too-many : p .«max_locals» < bodyLength sheet at / 4 → contentsCheck sheet at p AR ≡ refused 27
+  pub too-many : p .«max_locals» < argumentCount sheet at → contentsCheck sheet at p AR ≡ refused 27
   unfolding contentsCheck _else_ _>>_
   too-many h = simp (lt-leb _ _ h)
 
-  pub arguments-read : bodyLength sheet at / 4 ≤ p .«max_locals» → contentsCheck sheet at p AR ≡ passed (withArguments p (bodyAt at) (bodyLength sheet at / 4))
+  pub arguments-read : argumentCount sheet at ≤ p .«max_locals» → contentsCheck sheet at p AR ≡ passed tt
   unfolding contentsCheck _else_ _>>_
   arguments-read h = simp (le-leb _ _ h)
 
@@ -188,9 +192,9 @@ module _ (sheet : List ℕ) where
   body-short at bytes = omega (arith, bytes (at + 2), bytes (at + 2 + 1))
 
   module _ (at : ℕ) (p : Reading) (h : Within sheet p) (there : recordEnd sheet at ≤ length sheet) where
-    contents-within : (m : Mark) → follows m (p .last) ≡ true → rightLength m (bodyLength sheet at) ≡ true → Holds W (contentsCheck sheet at p m)
-    unfolding Holds W contentsCheck
-    contents-within LM f r = record {
+    with-within : (m : Mark) → follows m (p .last) ≡ true → rightLength m (bodyLength sheet at) ≡ true → contentsCheck sheet at p m ≡ passed tt → Within sheet (withRecord sheet at m p)
+    unfolding contentsCheck withRecord
+    with-within LM f r c = record {
       code-there = λ k. absurd (omega arith);
       some-code = λ k. absurd (omega arith);
       short-code = h .short-code;
@@ -198,7 +202,7 @@ module _ (sheet : List ℕ) where
       arguments-there = λ k. absurd (omega arith);
       few-arguments = λ k. absurd (omega arith);
     }
-    contents-within CD f r = record {
+    with-within CD f r c = record {
       code-there = λ k. there;
       some-code = λ k. leb-true _ _ r;
       short-code = body-short at;
@@ -206,45 +210,45 @@ module _ (sheet : List ℕ) where
       arguments-there = λ k. absurd (omega arith);
       few-arguments = λ k. absurd (omega arith);
     }
-    contents-within KI f r = asked W _ 25 _ (λ _. asked W _ 25 _ (λ _. asked W _ 25 _ (λ _. record {
+    with-within KI f r c = record {
       code-there = λ k. h .code-there (after-code (p .last) f);
       some-code = λ k. h .some-code (after-code (p .last) f);
       short-code = h .short-code;
       after-head = λ k. absurd (omega arith);
       arguments-there = λ k. absurd (omega arith);
       few-arguments = λ k. absurd (omega arith);
-    })))
-    contents-within AR f r = asked W _ 27 _ (λ few. record {
+    }
+    with-within AR f r c = record {
       code-there = λ k. h .code-there (after-code (p .last) f);
       some-code = λ k. h .some-code (after-code (p .last) f);
       short-code = h .short-code;
       after-head = λ k. omega arith;
       arguments-there = λ k. let e = eqb-true (bodyLength sheet at % 4) 0 r in omega arith;
-      few-arguments = λ k. leb-true _ _ few;
-    })
+      few-arguments = λ k. leb-true _ _ (last-passed _ 27 c);
+    }
 
   record-within : (at : ℕ) (p : Reading) → Within sheet p → Holds W (recordCheck sheet at p)
-  unfolding recordCheck
+  unfolding recordCheck Holds W
   record-within at p h = asked W _ 21 _ (λ _. asked W _ 21 _ (λ there. bound W (knownMark (u16 sheet at)) _ (λ m e.
-      asked W _ 23 _ (λ f. asked W _ 24 _ (λ r. contents-within at p h (leb-true (recordEnd sheet at) (length sheet) there) m f r)))))
+      asked W _ 23 _ (λ f. asked W _ 24 _ (λ r. after W (contentsCheck sheet at p m) _ (λ c. with-within at p h (leb-true (recordEnd sheet at) (length sheet) there) m f r c))))))
 
   -- the whole sheet
-  Whole : Reading → Type 0
-  Whole p = (Within sheet p) × (p .last ≡ 4)
+  Complete : Reading → Type 0
+  Complete p = (Within sheet p) × (p .last ≡ 4)
 
-  end-within : (p : Reading) → Within sheet p → Holds Whole (endCheck p)
-  unfolding Holds Whole
-  end-within p h = asked Whole _ 23 _ (λ e. (h, eqb-true _ _ e))
+  end-within : (p : Reading) → Within sheet p → Holds Complete (endCheck p)
+  unfolding Holds Complete
+  end-within p h = asked Complete _ 23 _ (λ e. (h, eqb-true _ _ e))
 
-  read-within : (n at : ℕ) (p : Reading) → Within sheet p → Holds Whole (readFrom n sheet at p)
+  read-within : (n at : ℕ) (p : Reading) → Within sheet p → Holds Complete (readFrom n sheet at p)
   unfolding readFrom W
   read-within zero at p h = end-within p h
   read-within (suc n) at p h =
-      either Whole (leb (length sheet) at) _ _ (end-within p h) (bound Whole (recordCheck sheet at p) _ (λ q e. read-within n (recordEnd sheet at) q (held W (recordCheck sheet at p) q (record-within at p h) e)))
+      either Complete (leb (length sheet) at) _ _ (end-within p h) (bound Complete (recordCheck sheet at p) _ (λ q e. read-within n (recordEnd sheet at) q (held W (recordCheck sheet at p) q (record-within at p h) e)))
 
   pub sheet-within : (p : Reading) → sheetCheck sheet ≡ passed p → (Within sheet p) × (p .last ≡ 4)
-  unfolding sheetCheck Whole
-  sheet-within p e = held Whole (sheetCheck sheet) p (read-within (length sheet) 0 unread nothing-read) e
+  unfolding sheetCheck Complete
+  sheet-within p e = held Complete (sheetCheck sheet) p (read-within (length sheet) 0 unread nothing-read) e
     where
       nothing-read : Within sheet unread
       nothing-read = record {
@@ -267,33 +271,33 @@ module _ (sheet : List ℕ) where
   After : ℕ → Reading → Type 0
   After at p = Placed (recordEnd sheet at) p
 
-  contents-placed : (at : ℕ) (p : Reading) → Placed at p → (m : Mark) → follows m (p .last) ≡ true → rightLength m (bodyLength sheet at) ≡ true → Holds (After at) (contentsCheck sheet at p m)
-  unfolding Holds After contentsCheck
-  contents-placed at p h LM f r = record {
+  with-placed : (at : ℕ) (p : Reading) → Placed at p → (m : Mark) → follows m (p .last) ≡ true → rightLength m (bodyLength sheet at) ≡ true → After at (withRecord sheet at m p)
+  unfolding After withRecord
+  with-placed at p h LM f r = record {
     first = λ e. absurd (omega arith);
     second = λ e. omega (arith, h .first (eqb-true (p .last) 0 f), eqb-true (bodyLength sheet at) 4 r);
     code-at = λ k. absurd (omega arith);
   }
-  contents-placed at p h CD f r = record {
+  with-placed at p h CD f r = record {
     first = λ e. absurd (omega arith);
     second = λ e. absurd (omega arith);
     code-at = λ k. omega (arith, h .second (eqb-true (p .last) 1 f));
   }
-  contents-placed at p h KI f r = asked (After at) _ 25 _ (λ _. asked (After at) _ 25 _ (λ _. asked (After at) _ 25 _ (λ _. record {
+  with-placed at p h KI f r = record {
     first = λ e. absurd (omega arith);
     second = λ e. absurd (omega arith);
     code-at = λ k. h .code-at (after-code (p .last) f);
-  })))
-  contents-placed at p h AR f r = asked (After at) _ 27 _ (λ _. record {
+  }
+  with-placed at p h AR f r = record {
     first = λ e. absurd (omega arith);
     second = λ e. absurd (omega arith);
     code-at = λ k. h .code-at (after-code (p .last) f);
-  })
+  }
 
   record-placed : (at : ℕ) (p : Reading) → Placed at p → Holds (After at) (recordCheck sheet at p)
-  unfolding recordCheck
+  unfolding recordCheck Holds
   record-placed at p h = asked (After at) _ 21 _ (λ _. asked (After at) _ 21 _ (λ _. bound (After at) (knownMark (u16 sheet at)) _ (λ m e.
-      asked (After at) _ 23 _ (λ f. asked (After at) _ 24 _ (λ r. contents-placed at p h m f r)))))
+      asked (After at) _ 23 _ (λ f. asked (After at) _ 24 _ (λ r. after (After at) (contentsCheck sheet at p m) _ (λ _. with-placed at p h m f r))))))
 
   At12 : Reading → Type 0
   At12 p = p .code ≡ 12
@@ -315,16 +319,16 @@ module _ (sheet : List ℕ) where
 -- ---- the load by the answers to its questions
 
 module _ (sheet slots kinds words : List ℕ) where
-  pub load-refused : (n : ℕ) → sheetCheck sheet ≡ refused n → record { load = Load.Refused n; slots = slots; kinds = kinds; words = words } ≡ loadOf sheet slots kinds words
+  pub load-refused : (n : ℕ) → sheetCheck sheet ≡ refused n → record { loaded = refusedLoad n; slots = slots; kinds = kinds; words = words } ≡ loadOf sheet slots kinds words
   unfolding loadOf _>>=_
   load-refused n e = rw e
 
   module _ (p : Reading) (read : sheetCheck sheet ≡ passed p) where
-    pub load-short : (n : ℕ) → memoryCheck p slots kinds words ≡ refused n → record { load = Load.Refused n; slots = slots; kinds = kinds; words = words } ≡ loadOf sheet slots kinds words
+    pub load-short : (n : ℕ) → memoryCheck p slots kinds words ≡ refused n → record { loaded = refusedLoad n; slots = slots; kinds = kinds; words = words } ≡ loadOf sheet slots kinds words
     unfolding loadOf _>>=_ _>>_
     load-short n e = rw (read, e)
 
     pub load-accepted : memoryCheck p slots kinds words ≡ passed tt → (filled : Pool) → filled ≡ loadedPool sheet p kinds words
-        → record { load = Load.Accepted (loadedState (p .«max_stack») (p .«max_locals»)) (p .code) (p .«code_length»); slots = loadedSlots sheet p slots; kinds = filled .kinds; words = filled .words } ≡ loadOf sheet slots kinds words
+        → record { loaded = acceptedLoad p; slots = loadedSlots sheet p slots; kinds = filled .kinds; words = filled .words } ≡ loadOf sheet slots kinds words
     unfolding loadOf _>>=_ _>>_
     load-accepted e filled f = rw (read, e, f)

@@ -9,6 +9,8 @@ use Rattle.rules.specs.declared.End.{End}
 use Rattle.rules.specs.declared.End.the-variants as End
 use Rattle.rules.specs.declared.Pressed.{Pressed}
 use Rattle.rules.specs.declared.Pressed.the-variants as Pressed
+use Rattle.rules.specs.declared.Load.{Load}
+use Rattle.rules.specs.declared.Load.the-variants as Load
 use Rattle.rules.specs.declared.Answer.{Answer}
 
 -- a number and the bits of a value
@@ -44,3 +46,8 @@ pressedAnswer Pressed.Granted = answer 0 0
 pressedAnswer (Pressed.Return v) = valueAnswer v
 pressedAnswer Pressed.Throw = answer 110 0
 pressedAnswer (Pressed.Refused n) = answer n 0
+
+-- a load: accepted, or its refusal
+abbrev pub loadAnswer : Load → Answer
+loadAnswer Load.Accepted = answer 0 0
+loadAnswer (Load.Refused n) = answer n 0

@@ -11,19 +11,19 @@ use Rattle.rules.specs.declared.Decision.the-variants as Decision
 use Rattle.rules.specs.declared.Pressed.{Pressed}
 use Rattle.rules.specs.declared.Pressed.the-variants.{Granted, Return, Throw, Refused}
 use Rattle.rules.specs.Check.{Check, passed, refused, _else_, _>>_, _≤ⁿ_, _<ⁿ_, _=ⁿ_}
-use Rattle.rules.specs.Questions.{Method, frameCheck}
-use Rattle.rules.specs.Step.{decideOf, moved, written}
+use Rattle.rules.specs.Questions.{Method, frameSize, frameCheck}
+use Rattle.rules.specs.Step.{Decided, Machine, decideOn, moved, written, cleared}
 
 -- what a press leaves, and its answer
-pub record Out : Type 0 where
+pub record AfterPress : Type 0 where
   pub state : State
   pub answer : Pressed
   pub slots : List ℕ
   pub log : List ℕ
 
--- a press that is not granted changes nothing
-abbrev pub kept : State → List ℕ → List ℕ → Pressed → Out
-kept s slots log a = record { state = s; answer = a; slots = slots; log = log }
+-- a press that is not granted changes nothing but its scratch
+abbrev pub kept : State → List ℕ → List ℕ → ℕ → Pressed → AfterPress
+kept s slots log n a = record { state = s; answer = a; slots = cleared s n slots; log = log }
 
 -- ---- the undo record: ten log words at 10 times count
 
@@ -43,12 +43,12 @@ undoRecord pc depth first many words = pc ∷ depth ∷ first ∷ many ∷ oldWo
 
 -- ---- forward
 
-abbrev pub granted : State → List ℕ → List ℕ → Update → Out
-granted s slots log u =
+abbrev pub granted : State → List ℕ → List ℕ → ℕ → Update → AfterPress
+granted s slots log n u =
     record {
       state = moved s (u .pc) (u .depth) (s .count + 1);
       answer = Granted;
-      slots = written u slots;
+      slots = cleared s n (written u slots);
       log = paste log (entryAt (s .count)) (undoRecord (s .pc) (s .depth) (u .first) (u .many) slots) 10;
     }
 
@@ -56,18 +56,18 @@ granted s slots log u =
 abbrev pub logCheck : ℕ → ℕ → Check (Unit {0})
 logCheck count room = entryAt count + 10 ≤ⁿ room else 12
 
-abbrev pub grantedBy : State → List ℕ → List ℕ → Update → Check (Unit {0}) → Out
-grantedBy s slots log u (passed t) = granted s slots log u
-grantedBy s slots log u (refused n) = kept s slots log (Refused n)
+abbrev pub grantedBy : State → List ℕ → List ℕ → ℕ → Update → Check (Unit {0}) → AfterPress
+grantedBy s slots log n u (passed t) = granted s slots log n u
+grantedBy s slots log n u (refused k) = kept s slots log n (Refused k)
 
-abbrev pub forwardBy : State → List ℕ → List ℕ → Decision → Out
-forwardBy s slots log (Decision.Ordinary u) = grantedBy s slots log u (logCheck (s .count) (length log))
-forwardBy s slots log (Decision.Return v) = kept s slots log (Return v)
-forwardBy s slots log Decision.Throw = kept s slots log Throw
-forwardBy s slots log (Decision.Refused n) = kept s slots log (Refused n)
+abbrev pub forwardBy : State → List ℕ → List ℕ → ℕ → Decision → AfterPress
+forwardBy s slots log n (Decision.Ordinary u) = grantedBy s slots log n u (logCheck (s .count) (length log))
+forwardBy s slots log n (Decision.Return v) = kept s slots log n (Return v)
+forwardBy s slots log n Decision.Throw = kept s slots log n Throw
+forwardBy s slots log n (Decision.Refused k) = kept s slots log n (Refused k)
 
-unfoldable pub forwardOf : Method → State → List ℕ → List ℕ → Out
-forwardOf l s slots log = forwardBy s slots log (decideOf l s slots)
+unfoldable pub forwardOf : Machine → State → List ℕ → List ℕ → AfterPress
+forwardOf x s slots log = forwardBy s slots log (decideOn x s slots .scratch) (decideOn x s slots .decision)
 
 -- ---- back
 
@@ -78,18 +78,18 @@ entryCheck code s log k = do
   getD log k 0 <ⁿ length code else 14
   getD log (k + 1) 0 ≤ⁿ s .«max_stack» else 14
   getD log (k + 3) 0 ≤ⁿ 6 else 14
-  (getD log (k + 3) 0 =ⁿ 0) || (getD log (k + 2) 0 + getD log (k + 3) 0 ≤ⁿ s .«max_locals» + s .«max_stack») else 14
+  (getD log (k + 3) 0 =ⁿ 0) || (getD log (k + 2) 0 + getD log (k + 3) 0 ≤ⁿ frameSize s) else 14
 
 -- questions 1 to 3; is count above 0? 13; does the log reach 10 times count? 14; the entry
 unfoldable pub backCheck : Method → State → List ℕ → List ℕ → Check (Unit {0})
 backCheck l s slots log = do
-  frameCheck l s slots
+  frameCheck l s (length slots)
   0 <ⁿ s .count else 13
   entryAt (s .count) ≤ⁿ length log else 14
   entryCheck (l .code) s log (entryAt (s .count - 1))
 
 -- the old words written, pc and depth restored, count lowered; no log word changed
-abbrev pub restored : State → List ℕ → List ℕ → ℕ → Out
+abbrev pub restored : State → List ℕ → List ℕ → ℕ → AfterPress
 restored s slots log k =
     record {
       state = moved s (getD log k 0) (getD log (k + 1) 0) (s .count - 1);
@@ -98,9 +98,9 @@ restored s slots log k =
       log = log;
     }
 
-abbrev pub backBy : State → List ℕ → List ℕ → Check (Unit {0}) → Out
+abbrev pub backBy : State → List ℕ → List ℕ → Check (Unit {0}) → AfterPress
 backBy s slots log (passed t) = restored s slots log (entryAt (s .count - 1))
-backBy s slots log (refused n) = kept s slots log (Refused n)
+backBy s slots log (refused n) = kept s slots log 0 (Refused n)
 
-unfoldable pub backOf : Method → State → List ℕ → List ℕ → Out
+unfoldable pub backOf : Method → State → List ℕ → List ℕ → AfterPress
 backOf l s slots log = backBy s slots log (backCheck l s slots log)

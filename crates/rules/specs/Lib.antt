@@ -7,6 +7,8 @@ pub mod Step
 pub mod Run
 pub mod Sheet
 pub mod History
+pub mod PlainWalk
 pub mod Walk
+pub mod FromSheet
 pub mod Answers
 pub mod Presses

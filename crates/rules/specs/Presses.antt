@@ -1,17 +1,20 @@
--- A list of presses as bytes, its answers written as words, and demand 3 of what it leaves. Assumes nothing.
+-- A list of presses as bytes, its answers written as words, and demand 3 of what it leaves, whatever sheet was loaded. Assumes nothing.
 use Prim.Native.Nat.{ℕ, zero, suc, _*_, _<_, _≤_}
 use mathlib.Core.Path.{_≡_}
 use mathlib.Core.List.{List, [], _∷_, _++_}
 use lib.ListN.{length}
 use lib.Seq.{paste}
 use Rattle.rules.specs.declared.State.{State}
-use Rattle.rules.specs.declared.Reading.{Reading}
 use Rattle.rules.specs.declared.Pressed.{Pressed}
+use Rattle.rules.specs.declared.Load.the-variants.{Accepted}
 use Rattle.rules.specs.Check.{Check, passed, refused, _else_, _≤ⁿ_}
 use Rattle.rules.specs.Fetch.{u8}
-use Rattle.rules.specs.Questions.{Method}
-use Rattle.rules.specs.Sheet.{sheetCheck, memoryCheck, loadOf, stateOf}
-use Rattle.rules.specs.Walk.{Stage, Press, forward, back, Walked, walkOf, plainAnswers, Whole, stage0, lentBy}
+use Rattle.rules.specs.Questions.{Method, method}
+use Rattle.rules.specs.Step.{Decider, Machine}
+use Rattle.rules.specs.Sheet.{AfterLoad, loadOf, codeOf}
+use Rattle.rules.specs.PlainWalk.{PlainWalk, Press, forward, back, plainAnswers}
+use Rattle.rules.specs.Walk.{Walked, walkOf, Demand3}
+use Rattle.rules.specs.FromSheet.{Lengths, plainWalkOf}
 use Rattle.rules.specs.Answers.{pressedAnswer}
 
 -- ---- bytes and words
@@ -52,39 +55,43 @@ replayed answers n w =
 abbrev pub answersCheck : ℕ → ℕ → Check (Unit {0})
 answersCheck n room = 3 * n ≤ⁿ room else 1
 
-abbrev pub replayBy : Method → List ℕ → State → List ℕ → List ℕ → List ℕ → Check (Unit {0}) → Replayed
-replayBy l bytes s slots log answers (passed t) = replayed answers (length bytes) (walkOf l (pressesOfBytes bytes) s slots log)
-replayBy l bytes s slots log answers (refused n) = record { number = n; state = s; slots = slots; log = log; answers = answers }
+abbrev pub replayBy : Machine → List ℕ → State → List ℕ → List ℕ → List ℕ → Check (Unit {0}) → Replayed
+replayBy x bytes s slots log answers (passed t) = replayed answers (length bytes) (walkOf x (pressesOfBytes bytes) s slots log)
+replayBy x bytes s slots log answers (refused n) = record { number = n; state = s; slots = slots; log = log; answers = answers }
 
 -- on any state and any memory
-unfoldable pub replayOf : Method → List ℕ → State → List ℕ → List ℕ → List ℕ → Replayed
-replayOf l bytes s slots log answers = replayBy l bytes s slots log answers (answersCheck (length bytes) (length answers))
+unfoldable pub replayOf : Machine → List ℕ → State → List ℕ → List ℕ → List ℕ → Replayed
+replayOf x bytes s slots log answers = replayBy x bytes s slots log answers (answersCheck (length bytes) (length answers))
 
 -- ---- demand 3 of what it leaves
+
+-- the method that a load leaves: the part of the sheet that is its code, and the pool that it filled
+abbrev pub loadedMethod : List ℕ → AfterLoad → Method
+loadedMethod sheet m = method (codeOf sheet (m .loaded)) (m .kinds) (m .words)
 
 -- a load of a sheet was accepted, whatever the lent memory held then, and what it handed back and filled is what is lent now
 pub record LeftBy (sheet : List ℕ) (l : Method) (s : State) (slots : List ℕ) : Type 0 where
   pub bytes : (i : ℕ) → u8 sheet i < 256
-  pub reading : Reading
   pub slots₀ : List ℕ
   pub kinds₀ : List ℕ
   pub words₀ : List ℕ
-  pub read : sheetCheck sheet ≡ passed reading
-  pub fits : memoryCheck reading slots₀ kinds₀ words₀ ≡ passed tt
-  pub same-lent : l ≡ lentBy sheet (loadOf sheet slots₀ kinds₀ words₀)
-  pub same-state : s ≡ stateOf (loadOf sheet slots₀ kinds₀ words₀ .load)
+  pub accepted : loadOf sheet slots₀ kinds₀ words₀ .loaded .answer ≡ Accepted
+  pub same-method : l ≡ loadedMethod sheet (loadOf sheet slots₀ kinds₀ words₀)
+  pub same-state : s ≡ loadOf sheet slots₀ kinds₀ words₀ .loaded .state
   pub same-slots : slots ≡ loadOf sheet slots₀ kinds₀ words₀ .slots
 
--- DEMAND 3 of a list of presses in the words that it leaves; t₀ is stage 0
-pub record WholeInWords (l : Method) (s : State) (t₀ : Stage) (slots log answers bytes : List ℕ) (r : Replayed) : Type 0 where
-  pub all-made : r .number ≡ 0
-  -- the answers are the plain walk's
-  pub worded : r .answers ≡ paste answers 0 (answersWords (plainAnswers l s t₀ (length log) (pressesOfBytes bytes) 0)) (3 * length bytes)
-  -- and the rest of demand 3 holds of the state, the slots and the log
-  pub whole : Whole l s t₀ slots (length log) (pressesOfBytes bytes)
-      (record { state = r .state; slots = r .slots; log = r .log; answers = plainAnswers l s t₀ (length log) (pressesOfBytes bytes) 0 })
+-- the plain walk of a sheet, with as much memory as is lent
+abbrev pub plainWalkIn : (Method → Decider) → List ℕ → Method → List ℕ → List ℕ → PlainWalk
+plainWalkIn rules sheet l slots log = plainWalkOf rules sheet (record { slots = length slots; kinds = length (l .kinds); words = length (l .words); log = length log })
 
--- DEMAND 3, whatever sheet was loaded
-abbrev pub FromAnyLoad : Method → State → List ℕ → List ℕ → List ℕ → List ℕ → Replayed → Type 0
-FromAnyLoad l s slots log answers bytes r =
-    (sheet : List ℕ) (from : LeftBy sheet l s slots) → 3 * length bytes ≤ length answers → WholeInWords l s (stage0 sheet (from .reading)) slots log answers bytes r
+-- DEMAND 3 of a list of presses in the words that it leaves, by the plain walk f
+pub record Demand3InWords (f : PlainWalk) (slots log answers bytes : List ℕ) (r : Replayed) : Type 0 where
+  pub all-made : r .number ≡ 0
+  pub answer-words : r .answers ≡ paste answers 0 (answersWords (plainAnswers f (pressesOfBytes bytes) 0)) (3 * length bytes)
+  -- of the state, the slots and the log
+  pub demand3 : Demand3 f slots (pressesOfBytes bytes) (record { state = r .state; slots = r .slots; log = r .log; answers = plainAnswers f (pressesOfBytes bytes) 0 })
+
+-- DEMAND 3, whatever sheet was loaded, by the plain walk of that sheet
+abbrev pub FromAnyLoad : (Method → Decider) → Method → State → List ℕ → List ℕ → List ℕ → List ℕ → Replayed → Type 0
+FromAnyLoad rules l s slots log answers bytes r =
+    (sheet : List ℕ) → LeftBy sheet l s slots → 3 * length bytes ≤ length answers → Demand3InWords (plainWalkIn rules sheet l slots log) slots log answers bytes r

@@ -8,7 +8,7 @@ use Rattle.rules.specs.declared.State.{State}
 use Rattle.rules.specs.Check.{Check, _else_, _>>_, _≤ⁿ_, _<ⁿ_, _=ⁿ_}
 use Rattle.rules.specs.Fetch.{Instruction}
 
--- what is lent and never written: the code, and the constant pool as kinds and words
+-- a method as it is lent, and never written: its code, and the constant pool as kinds and words
 pub record Method : Type 0 where
   pub code : List ℕ
   pub kinds : List ℕ
@@ -17,14 +17,18 @@ pub record Method : Type 0 where
 abbrev pub method : List ℕ → List ℕ → List ℕ → Method
 method code kinds words = record { code = code; kinds = kinds; words = words }
 
--- ---- questions 1 to 3
+-- how many places a frame has (document 01): all locals and stack places
+abbrev pub frameSize : State → ℕ
+frameSize s = s .«max_locals» + s .«max_stack»
 
-unfoldable pub frameCheck : Method → State → List ℕ → Check (Unit {0})
-frameCheck l s slots = do
+-- ---- questions 1 to 3, with n slots
+
+unfoldable pub frameCheck : Method → State → ℕ → Check (Unit {0})
+frameCheck l s n = do
   -- 1. Are kinds and words equally long, at most 65,536, and slots at least max_locals + max_stack?
   length (l .kinds) =ⁿ length (l .words) else 1
   length (l .kinds) ≤ⁿ 65536 else 1
-  s .«max_locals» + s .«max_stack» ≤ⁿ length slots else 1
+  frameSize s ≤ⁿ n else 1
   -- 2. Is the code 1 to 65,535 bytes and pc inside?
   1 ≤ⁿ length (l .code) else 2
   length (l .code) ≤ⁿ 65535 else 2

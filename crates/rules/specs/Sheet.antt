@@ -7,8 +7,8 @@ use Rattle.rules.specs.declared.State.{State}
 use Rattle.rules.specs.declared.Mark.{Mark}
 use Rattle.rules.specs.declared.Mark.the-variants.{LM, CD, KI, AR}
 use Rattle.rules.specs.declared.Reading.{Reading}
-use Rattle.rules.specs.declared.Load.{Load}
 use Rattle.rules.specs.declared.Load.the-variants as Load
+use Rattle.rules.specs.declared.Loaded.{Loaded}
 use Rattle.rules.specs.Check.{Check, passed, refused, _else_, _>>=_, _>>_, _≤ⁿ_, _<ⁿ_, _=ⁿ_}
 use Rattle.rules.specs.Fetch.{u8, u16, u32}
 
@@ -46,31 +46,14 @@ rightLength CD n = 1 ≤ⁿ n
 rightLength KI n = (n =ⁿ 7) || (n =ⁿ 11)
 rightLength AR n = n % 4 =ⁿ 0
 
--- ---- what a record adds to what has been read
-
--- nothing yet
-abbrev pub unread : Reading
-unread = record { last = 0; «max_stack» = 0; «max_locals» = 0; code = 0; «code_length» = 0; used = 0; arguments = 0; «argument_count» = 0 }
+-- ---- the fields of a record
 
 -- LM: max_stack, max_locals
-abbrev pub withLimits : Reading → ℕ → ℕ → Reading
-withLimits p stack locals =
-    record { last = markNumber LM; «max_stack» = stack; «max_locals» = locals; code = p .code; «code_length» = p .«code_length»; used = p .used; arguments = p .arguments; «argument_count» = p .«argument_count» }
+abbrev pub limitStack : List ℕ → ℕ → ℕ
+limitStack sheet at = u16 sheet (bodyAt at)
 
--- CD: the code
-abbrev pub withCode : Reading → ℕ → ℕ → Reading
-withCode p at n =
-    record { last = markNumber CD; «max_stack» = p .«max_stack»; «max_locals» = p .«max_locals»; code = at; «code_length» = n; used = p .used; arguments = p .arguments; «argument_count» = p .«argument_count» }
-
--- KI: a constant, up to its last pool index
-abbrev pub withConstant : Reading → ℕ → Reading
-withConstant p used =
-    record { last = markNumber KI; «max_stack» = p .«max_stack»; «max_locals» = p .«max_locals»; code = p .code; «code_length» = p .«code_length»; used = used; arguments = p .arguments; «argument_count» = p .«argument_count» }
-
--- AR: the argument words
-abbrev pub withArguments : Reading → ℕ → ℕ → Reading
-withArguments p at n =
-    record { last = markNumber AR; «max_stack» = p .«max_stack»; «max_locals» = p .«max_locals»; code = p .code; «code_length» = p .«code_length»; used = p .used; arguments = at; «argument_count» = n }
+abbrev pub limitLocals : List ℕ → ℕ → ℕ
+limitLocals sheet at = u16 sheet (bodyAt at + 2)
 
 -- KI: pool index, tag, value. A long or a double uses two indices
 abbrev pub poolIndex : List ℕ → ℕ → ℕ
@@ -89,18 +72,43 @@ isWide sheet at = bodyLength sheet at =ⁿ 11
 unfoldable pub lastIndex : List ℕ → ℕ → ℕ
 lastIndex sheet at = cond (isWide sheet at) (poolIndex sheet at + 1) (poolIndex sheet at)
 
+-- AR: how many argument words
+abbrev pub argumentCount : List ℕ → ℕ → ℕ
+argumentCount sheet at = bodyLength sheet at / 4
+
+-- ---- what a record adds to what has been read
+
+-- nothing yet
+abbrev pub unread : Reading
+unread = record { last = 0; «max_stack» = 0; «max_locals» = 0; code = 0; «code_length» = 0; used = 0; arguments = 0; «argument_count» = 0 }
+
+-- what a record of this mark says, where it is such a record, and else what was known
+abbrev pub by : Mark → Mark → ℕ → ℕ → ℕ
+by this m new old = cond (markNumber m =ⁿ markNumber this) new old
+
+-- each field, with the record that says it
+unfoldable pub withRecord : List ℕ → ℕ → Mark → Reading → Reading
+withRecord sheet at m p =
+    record {
+      last = markNumber m;
+      «max_stack» = by LM m (limitStack sheet at) (p .«max_stack»);
+      «max_locals» = by LM m (limitLocals sheet at) (p .«max_locals»);
+      code = by CD m (bodyAt at) (p .code);
+      «code_length» = by CD m (bodyLength sheet at) (p .«code_length»);
+      used = by KI m (lastIndex sheet at) (p .used);
+      arguments = by AR m (bodyAt at) (p .arguments);
+      «argument_count» = by AR m (argumentCount sheet at) (p .«argument_count»);
+    }
+
 -- KI: tag suits length, index above 0 and all used, a long's second at most 65,535? 25. AR: arguments at most max_locals? 27
-unfoldable pub contentsCheck : List ℕ → ℕ → Reading → Mark → Check Reading
-contentsCheck sheet at p LM = passed (withLimits p (u16 sheet (bodyAt at)) (u16 sheet (bodyAt at + 2)))
-contentsCheck sheet at p CD = passed (withCode p (bodyAt at) (bodyLength sheet at))
+unfoldable pub contentsCheck : List ℕ → ℕ → Reading → Mark → Check (Unit {0})
+contentsCheck sheet at p LM = passed tt
+contentsCheck sheet at p CD = passed tt
 contentsCheck sheet at p KI = do
   tagSuits (poolTag sheet at) (bodyLength sheet at) else 25
   p .used <ⁿ poolIndex sheet at else 25
   lastIndex sheet at ≤ⁿ 65535 else 25
-  passed (withConstant p (lastIndex sheet at))
-contentsCheck sheet at p AR = do
-  bodyLength sheet at / 4 ≤ⁿ p .«max_locals» else 27
-  passed (withArguments p (bodyAt at) (bodyLength sheet at / 4))
+contentsCheck sheet at p AR = argumentCount sheet at ≤ⁿ p .«max_locals» else 27
 
 -- four bytes and the body present? 21. Mark known? 22. Order as above? 23. Length right? 24. Then 25 or 27
 unfoldable pub recordCheck : List ℕ → ℕ → Reading → Check Reading
@@ -111,6 +119,7 @@ recordCheck sheet at p = do
   follows m (p .last) else 23
   rightLength m (bodyLength sheet at) else 24
   contentsCheck sheet at p m
+  passed (withRecord sheet at m p)
 
 -- at the end of the bytes: was AR seen? 23
 abbrev pub endCheck : Reading → Check Reading
@@ -193,35 +202,37 @@ loadedState stack locals = record { «max_stack» = stack; «max_locals» = loca
 
 -- ---- the load
 
-pub record Loaded : Type 0 where
-  pub load : Load
+-- what a load gives, and what it leaves
+pub record AfterLoad : Type 0 where
+  pub loaded : Loaded
   pub slots : List ℕ
   pub kinds : List ℕ
   pub words : List ℕ
 
-abbrev pub loadBy : List ℕ → List ℕ → List ℕ → List ℕ → Check Reading → Loaded
+abbrev pub acceptedLoad : Reading → Loaded
+acceptedLoad p = record { answer = Load.Accepted; state = loadedState (p .«max_stack») (p .«max_locals»); code = p .code; «code_length» = p .«code_length» }
+
+-- its number, a state of zeros and the empty part at the sheet's start
+abbrev pub refusedLoad : ℕ → Loaded
+refusedLoad n = record { answer = Load.Refused n; state = loadedState 0 0; code = 0; «code_length» = 0 }
+
+abbrev pub loadBy : List ℕ → List ℕ → List ℕ → List ℕ → Check Reading → AfterLoad
 loadBy sheet slots kinds words (passed p) =
     record {
-      load = Load.Accepted (loadedState (p .«max_stack») (p .«max_locals»)) (p .code) (p .«code_length»);
+      loaded = acceptedLoad p;
       slots = loadedSlots sheet p slots;
       kinds = loadedPool sheet p kinds words .kinds;
       words = loadedPool sheet p kinds words .words;
     }
-loadBy sheet slots kinds words (refused n) = record { load = Load.Refused n; slots = slots; kinds = kinds; words = words }
+loadBy sheet slots kinds words (refused n) = record { loaded = refusedLoad n; slots = slots; kinds = kinds; words = words }
 
 -- nothing is written unless the whole sheet and all lengths are accepted
-unfoldable pub loadOf : List ℕ → List ℕ → List ℕ → List ℕ → Loaded
+unfoldable pub loadOf : List ℕ → List ℕ → List ℕ → List ℕ → AfterLoad
 loadOf sheet slots kinds words = loadBy sheet slots kinds words (do
   p ← sheetCheck sheet
   memoryCheck p slots kinds words
   passed p)
 
--- what a load hands back besides: a refused one a state of zeros and the empty part at the sheet's start
-abbrev pub stateOf : Load → State
-stateOf (Load.Accepted s at n) = s
-stateOf (Load.Refused k) = loadedState 0 0
-
 -- the code is the very part of the sheet that holds it; where a load of another sheet points past this one, the empty part
-abbrev pub codeOf : List ℕ → Load → List ℕ
-codeOf sheet (Load.Accepted s at n) = cond (at + n ≤ⁿ length sheet) (take n (drop at sheet)) []
-codeOf sheet (Load.Refused k) = []
+abbrev pub codeOf : List ℕ → Loaded → List ℕ
+codeOf sheet x = cond (x .code + x .«code_length» ≤ⁿ length sheet) (take (x .«code_length») (drop (x .code) sheet)) []

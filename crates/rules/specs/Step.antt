@@ -1,9 +1,9 @@
--- One step, decided before anything is written, with question 10; then taken, without history. Assumes nothing.
+-- One step, decided before anything is written, with question 10; then taken, without history, by any machine. Assumes nothing.
 use Prim.Native.Nat.{ℕ, zero, suc, _+_, _-_}
 use mathlib.Core.Bool.{cond}
-use mathlib.Core.List.{List, [], _∷_}
+use mathlib.Core.List.{List, [], _∷_, _++_}
 use lib.IntN.{ℤ, pos, negsuc, _+ℤ_}
-use lib.ListN.{length, getD, take, drop}
+use lib.ListN.{length, getD, take, drop, replicate}
 use lib.Seq.{paste}
 use Rattle.values.specs.Kinds.{placesOf}
 use Rattle.rules.specs.declared.State.{State}
@@ -13,13 +13,17 @@ use Rattle.rules.specs.declared.Decision.the-variants.{Ordinary, Return,
 use Rattle.rules.specs.Check.{Check, passed, refused, _else_, _>>=_, _>>_, _<ⁿ_, _=ⁿ_}
 use Rattle.rules.specs.Forms.{Result, pushes, stores, divides, branches, returns, Source, stack, local, pool}
 use Rattle.rules.specs.Fetch.{Instruction, fetched}
-use Rattle.rules.specs.Questions.{Method, popped, pushed, frameCheck, needsCheck}
+use Rattle.rules.specs.Questions.{Method, method, frameSize, popped, pushed, frameCheck, needsCheck}
 
 -- ---- the words that an instruction works on
 
--- the words of the frame (document 01): all locals and stack places. The rules read these and no other slot
+-- the words of the frame (document 01): all locals and stack places
 abbrev pub frame : State → List ℕ → List ℕ
-frame s slots = take (s .«max_locals» + s .«max_stack») slots
+frame s slots = take (frameSize s) slots
+
+-- and the slots after it
+abbrev pub beyond : State → List ℕ → List ℕ
+beyond s slots = drop (frameSize s) slots
 
 -- its first place on the stack, counted from the first local
 abbrev pub base : State → Instruction → ℕ
@@ -85,15 +89,47 @@ abbrev pub decision : Check Decision → Decision
 decision (passed d) = d
 decision (refused n) = Refused n
 
--- questions 1 to 10 in their order, and what the instruction does
-unfoldable pub decideOf : Method → State → List ℕ → Decision
-decideOf l s slots = decision (do
-  frameCheck l s slots
+-- questions 1 to 10 in their order, and what the instruction does. It is given the number of slots, the state and the words of the frame: that a step looks at no
+-- other slot is this type
+unfoldable pub decideFrame : Method → ℕ → State → List ℕ → Decision
+decideFrame l n s words = decision (do
+  frameCheck l s n
   i ← fetched (l .code) (s .pc)
   needsCheck l s i
-  outcome l s i (i .rule .does (i .operand) (wordsAt (i .rule .reads) l s (frame s slots) i)))
+  outcome l s i (i .rule .does (i .operand) (wordsAt (i .rule .reads) l s words i)))
 
--- ---- the step without history
+abbrev pub decideOf : Method → State → List ℕ → Decision
+decideOf l s slots = decideFrame l (length slots) s (frame s slots)
+
+-- ---- a machine: a method and a way to decide its steps. What follows, up to demand 3, is said of any machine
+
+-- a decision, and how many slots after the frame it took as scratch: these are 0 afterwards, whatever was decided. The 164 instructions take none
+pub record Decided : Type 0 where
+  pub decision : Decision
+  pub scratch : ℕ
+
+-- by the number of slots, the state and the words of the frame
+abbrev pub Decider : Type 0
+Decider = ℕ → State → List ℕ → Decided
+
+pub record Machine : Type 0 where
+  pub runs : Method
+  pub decides : Decider
+
+abbrev pub decideOn : Machine → State → List ℕ → Decided
+decideOn x s slots = x .decides (length slots) s (frame s slots)
+
+-- the rules of the 164 instructions
+abbrev pub coreRules : Method → Decider
+coreRules l n s words = record { decision = decideFrame l n s words; scratch = 0 }
+
+abbrev pub coreMachine : Method → Machine
+coreMachine l = record { runs = l; decides = coreRules l }
+
+abbrev pub machine : List ℕ → List ℕ → List ℕ → Machine
+machine code kinds words = coreMachine (method code kinds words)
+
+-- ---- what a step leaves
 
 -- the state at another offset, depth and count
 abbrev pub moved : State → ℕ → ℕ → ℕ → State
@@ -105,17 +141,32 @@ updateWords u = u .w0 ∷ u .w1 ∷ u .w2 ∷ u .w3 ∷ u .w4 ∷ u .w5 ∷ []
 abbrev pub written : Update → List ℕ → List ℕ
 written u slots = paste slots (u .first) (updateWords u) (u .many)
 
+-- the first n words set to 0
+abbrev pub zeroed : ℕ → List ℕ → List ℕ
+zeroed n words = replicate n 0 ++ drop n words
+
+-- n words after the first k set to 0
+abbrev pub zeroedAfter : ℕ → ℕ → List ℕ → List ℕ
+zeroedAfter k zero words = words
+zeroedAfter k (suc n) words = take k words ++ zeroed (suc n) (drop k words)
+
+-- n slots after the frame set to 0
+abbrev pub cleared : State → ℕ → List ℕ → List ℕ
+cleared s n slots = zeroedAfter (frameSize s) n slots
+
+-- ---- the step without history
+
 pub record Stepped : Type 0 where
   pub state : State
   pub decision : Decision
   pub slots : List ℕ
 
--- an ordinary step gives count 0; an outcome or a refusal changes nothing
-abbrev pub stepBy : State → List ℕ → Decision → Stepped
-stepBy s slots (Ordinary u) = record { state = moved s (u .pc) (u .depth) 0; decision = Ordinary u; slots = written u slots }
-stepBy s slots (Return v) = record { state = s; decision = Return v; slots = slots }
-stepBy s slots Throw = record { state = s; decision = Throw; slots = slots }
-stepBy s slots (Refused n) = record { state = s; decision = Refused n; slots = slots }
+-- an ordinary step gives count 0; an outcome or a refusal changes nothing but its scratch
+abbrev pub stepBy : State → List ℕ → ℕ → Decision → Stepped
+stepBy s slots n (Ordinary u) = record { state = moved s (u .pc) (u .depth) 0; decision = Ordinary u; slots = cleared s n (written u slots) }
+stepBy s slots n (Return v) = record { state = s; decision = Return v; slots = cleared s n slots }
+stepBy s slots n Throw = record { state = s; decision = Throw; slots = cleared s n slots }
+stepBy s slots n (Refused k) = record { state = s; decision = Refused k; slots = cleared s n slots }
 
-unfoldable pub stepOf : Method → State → List ℕ → Stepped
-stepOf l s slots = stepBy s slots (decideOf l s slots)
+unfoldable pub stepOf : Machine → State → List ℕ → Stepped
+stepOf x s slots = stepBy s slots (decideOn x s slots .scratch) (decideOn x s slots .decision)

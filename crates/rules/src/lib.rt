@@ -70,14 +70,19 @@ pub struct Reading {
     pub argument_count: usize,
 }
 
-// What a load comes to: the state, and where the code lies in the sheet; or the number of a refusal.
+// What a load answers.
 pub enum Load {
-    Accepted {
-        state: State,
-        code: usize,
-        code_length: usize,
-    },
+    Accepted,
     Refused(u32),
+}
+
+// What a load gives in every case: its answer, the state, and where the code lies in the sheet. A refused one gives a state of zeros and the empty part at the
+// sheet's start.
+pub struct Loaded {
+    pub answer: Load,
+    pub state: State,
+    pub code: usize,
+    pub code_length: usize,
 }
 
 // What an answer says over the C boundary: a number, and the value that goes with it as two words, 0 where there is none.

@@ -13,16 +13,16 @@ use Rattle.rules.specs.declared.State.{State}
 use Rattle.rules.specs.declared.Load.the-variants as Load
 use Rattle.rules.specs.Check.{Check, passed, refused, _>>=_, _>>_}
 use Rattle.rules.specs.Fetch.{u8, u32}
-use Rattle.rules.specs.Questions.{method, frameCheck}
+use Rattle.rules.specs.Questions.{method}
 use Rattle.rules.specs.Step.{frame}
-use Rattle.rules.specs.Sheet.{recordEnd, bodyAt, poolIndex, isWide, sheetCheck, memoryCheck, Pool, withWords, withValue, poolFrom, loadedPool, argumentsFrom, loadedFrame, loadedSlots, loadedState, loadBy, loadOf, codeOf}
+use Rattle.rules.specs.Sheet.{recordEnd, bodyAt, poolIndex, isWide, sheetCheck, memoryCheck, Pool, withWords, withValue, poolFrom, loadedPool, argumentsFrom, loadedFrame, loadedSlots, loadedState, acceptedLoad, loadBy, loadOf, codeOf}
 use Rattle.rules.proofs.Check.{first-passed, last-passed}
-use Rattle.rules.proofs.Questions.{Framed, frame-passed}
-use Rattle.rules.proofs.Sheet.{Within, sheet-within, code-at-12}
+use Rattle.rules.proofs.Questions.{Framed}
+use Rattle.rules.proofs.Sheet.{Within, sheet-within, code-at-12, load-accepted}
 
 -- ---- lengths
 
-length-words : (sheet : List ℕ) (at : ℕ) (words : List ℕ) → length (withWords sheet at words) ≡ length words
+pub length-words : (sheet : List ℕ) (at : ℕ) (words : List ℕ) → length (withWords sheet at words) ≡ length words
 unfolding withWords
 length-words sheet at words = go (isWide sheet at)
   where
@@ -30,7 +30,7 @@ length-words sheet at words = go (isWide sheet at)
     go true = simp length-set
     go false = simp length-set
 
-pool-kinds : (n : ℕ) (sheet : List ℕ) (at end : ℕ) (p : Pool) → length (poolFrom n sheet at end p .kinds) ≡ length (p .kinds)
+pub pool-kinds : (n : ℕ) (sheet : List ℕ) (at end : ℕ) (p : Pool) → length (poolFrom n sheet at end p .kinds) ≡ length (p .kinds)
 unfolding poolFrom
 pool-kinds zero sheet at end p = refl
 pool-kinds (suc n) sheet at end p = go (pool-kinds n sheet (recordEnd sheet at) end (withValue sheet at p) ∙ simp length-set) (leb end at)
@@ -40,7 +40,7 @@ pool-kinds (suc n) sheet at end p = go (pool-kinds n sheet (recordEnd sheet at) 
     go h true = refl
     go h false = h
 
-pool-words : (n : ℕ) (sheet : List ℕ) (at end : ℕ) (p : Pool) → length (poolFrom n sheet at end p .words) ≡ length (p .words)
+pub pool-words : (n : ℕ) (sheet : List ℕ) (at end : ℕ) (p : Pool) → length (poolFrom n sheet at end p .words) ≡ length (p .words)
 unfolding poolFrom
 pool-words zero sheet at end p = refl
 pool-words (suc n) sheet at end p = go (pool-words n sheet (recordEnd sheet at) end (withValue sheet at p) ∙ length-words sheet at (p .words)) (leb end at)
@@ -62,7 +62,7 @@ module _ (sheet slots kinds words : List ℕ) (bytes : (i : ℕ) → u8 sheet i 
   state = loadedState (p .«max_stack») (p .«max_locals»)
 
   abbrev code : List ℕ
-  code = codeOf sheet (Load.Accepted (loadedState (p .«max_stack») (p .«max_locals»)) (p .code) (p .«code_length»))
+  code = codeOf sheet (acceptedLoad p)
 
   within : Within sheet p
   within = sheet-within sheet p read .0
@@ -70,7 +70,7 @@ module _ (sheet slots kinds words : List ℕ) (bytes : (i : ℕ) → u8 sheet i 
   last : p .last ≡ 4
   last = sheet-within sheet p read .1
 
-  code-is : code ≡ take (p .«code_length») (drop (p .code) sheet)
+  pub code-is : code ≡ take (p .«code_length») (drop (p .code) sheet)
   code-is = let e = last in rw (le-leb (p .code + p .«code_length») (length sheet) (within .code-there (omega arith)))
 
   code-length : length code ≡ p .«code_length»
@@ -78,7 +78,7 @@ module _ (sheet slots kinds words : List ℕ) (bytes : (i : ℕ) → u8 sheet i 
       let e = last in
       ap length code-is ∙ length-take-le (p .«code_length») (drop (p .code) sheet) (omega (arith, within .code-there (omega arith), length-drop (p .code) sheet))
 
-  frame-length : length (loadedFrame sheet p) ≡ p .«max_locals» + p .«max_stack»
+  pub frame-length : length (loadedFrame sheet p) ≡ p .«max_locals» + p .«max_stack»
   frame-length =
       let e = last in
       length-append (argumentsFrom sheet (p .arguments) (p .«argument_count»)) _
@@ -90,7 +90,7 @@ module _ (sheet slots kinds words : List ℕ) (bytes : (i : ℕ) → u8 sheet i 
   pub beyond-is : drop (p .«max_locals» + p .«max_stack») (loadedSlots sheet p slots) ≡ drop (p .«max_locals» + p .«max_stack») slots
   beyond-is = drop-at (loadedFrame sheet p) (drop (p .«max_locals» + p .«max_stack») slots) (p .«max_locals» + p .«max_stack») frame-length
 
-  pub loaded-framed : Framed (method code (loadedPool sheet p kinds words .kinds) (loadedPool sheet p kinds words .words)) state (loadedSlots sheet p slots)
+  pub loaded-framed : Framed (method code (loadedPool sheet p kinds words .kinds) (loadedPool sheet p kinds words .words)) state (length (loadedSlots sheet p slots))
   unfolding memoryCheck
   loaded-framed =
       let e = last in
@@ -112,24 +112,34 @@ module _ (sheet slots kinds words : List ℕ) (bytes : (i : ℕ) → u8 sheet i 
         deep = omega arith;
       }
 
-  pub loaded-passes : frameCheck (method code (loadedPool sheet p kinds words .kinds) (loadedPool sheet p kinds words .words)) state (loadedSlots sheet p slots) ≡ passed tt
-  loaded-passes = frame-passed (method code (loadedPool sheet p kinds words .kinds) (loadedPool sheet p kinds words .words)) state (loadedSlots sheet p slots) loaded-framed
+-- ---- an accepted load is of a sheet that was read, with memory that reaches
+
+pub record Read (sheet slots kinds words : List ℕ) : Type 0 where
+  pub reading : Reading
+  pub read : sheetCheck sheet ≡ passed reading
+  pub fits : memoryCheck reading slots kinds words ≡ passed tt
+
+module _ (sheet slots kinds words : List ℕ) where
+  by-memory : (p : Reading) → sheetCheck sheet ≡ passed p → (x : Check (Unit {0})) → memoryCheck p slots kinds words ≡ x
+      → loadBy sheet slots kinds words (x >> passed p) .loaded .answer ≡ Load.Accepted → Read sheet slots kinds words
+  unfolding _>>_
+  by-memory p q (passed t) m h = record { reading = p; read = q; fits = m }
+  by-memory p q (refused k) m h = let z : _≡_ {A = ℕ} 0 1 = cc in absurd (omega arith)
+
+  pub was-read : loadOf sheet slots kinds words .loaded .answer ≡ Load.Accepted → Read sheet slots kinds words
+  unfolding loadOf _>>=_
+  was-read h = go (sheetCheck sheet) refl h
+    where
+      go : (x : Check Reading) → sheetCheck sheet ≡ x → loadBy sheet slots kinds words (x >>= λ p. memoryCheck p slots kinds words >> passed p) .loaded .answer ≡ Load.Accepted → Read sheet slots kinds words
+      go (passed p) q k = by-memory p q (memoryCheck p slots kinds words) refl k
+      go (refused m) q k = let z : _≡_ {A = ℕ} 0 1 = cc in absurd (omega arith)
 
 -- ---- where an accepted load says that the code lies
 
-module _ (sheet slots kinds words : List ℕ) (bytes : (i : ℕ) → u8 sheet i < 256) (s : State) (at n : ℕ) where
-  by-reading : (p : Reading) → sheetCheck sheet ≡ passed p → (x : Check (Unit {0})) → loadBy sheet slots kinds words (x >> passed p) .load ≡ Load.Accepted s at n → (at ≡ 12) × (n ≤ 65535)
-  unfolding _>>_
-  by-reading p q (passed t) h =
-      let e : p .code ≡ at = cc in
-      let f : p .«code_length» ≡ n = cc in
-      (sym e ∙ code-at-12 sheet p q, omega (arith, f, sheet-within sheet p q .0 .short-code bytes))
-  by-reading p q (refused k) h = let z : _≡_ {A = ℕ} 0 1 = cc in absurd (omega arith)
-
-  pub accepted-where : loadOf sheet slots kinds words .load ≡ Load.Accepted s at n → (at ≡ 12) × (n ≤ 65535)
-  unfolding loadOf _>>=_
-  accepted-where h = go (sheetCheck sheet) refl h
-    where
-      go : (x : Check Reading) → sheetCheck sheet ≡ x → loadBy sheet slots kinds words (x >>= λ p. memoryCheck p slots kinds words >> passed p) .load ≡ Load.Accepted s at n → (at ≡ 12) × (n ≤ 65535)
-      go (passed p) q k = by-reading p q (memoryCheck p slots kinds words) k
-      go (refused m) q k = let z : _≡_ {A = ℕ} 0 1 = cc in absurd (omega arith)
+module _ (sheet slots kinds words : List ℕ) (bytes : (i : ℕ) → u8 sheet i < 256) where
+  pub accepted-where : loadOf sheet slots kinds words .loaded .answer ≡ Load.Accepted
+      → (loadOf sheet slots kinds words .loaded .code ≡ 12) × (loadOf sheet slots kinds words .loaded .«code_length» ≤ 65535)
+  accepted-where h =
+      let r = was-read sheet slots kinds words h in
+      let e = load-accepted sheet slots kinds words (r .reading) (r .read) (r .fits) (loadedPool sheet (r .reading) kinds words) refl in
+      rw (← e) (code-at-12 sheet (r .reading) (r .read), sheet-within sheet (r .reading) (r .read) .0 .short-code bytes)
