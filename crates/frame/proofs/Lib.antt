@@ -1,5 +1,4 @@
 -- Laws that other crates cite
-pub mod FrameAnswers
 pub mod Needs
 -- Laws for this crate's functions
 mod Parts

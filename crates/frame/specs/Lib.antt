@@ -1,2 +1,1 @@
-pub mod FrameAnswer
 pub mod Place

@@ -7,7 +7,6 @@ mod words;
 
 pub use places::Placed;
 pub use places::place;
-pub use questions::FrameCheck;
 pub use questions::check_frame;
 pub use slots::commit;
 pub use slots::load_local;

@@ -1,39 +1,35 @@
 // Questions 1 to 3: whether a frame stands in what is lent.
+use rules::Checked;
 use rules::State;
 ghost use mathlib.Core.Path.{_≡_};
+ghost use lib.ListN.{length};
 ghost use Rattle.rules.specs.Questions.{method, frameCheck};
-ghost use Rattle.frame.specs.FrameAnswer.{frameAnswer};
-
-// What questions 1 to 3 say: yes to all of them, or the number of the first no.
-pub enum FrameCheck {
-    Passed,
-    Refused(u32),
-}
+ghost use Rattle.rules.specs.Answers.{checked};
 
 // Questions 1 to 3.
-pub fn check_frame(code: &[u8], kinds: &[u8], words: &[u32], slots: &[u32], s: State) -> FrameCheck
-    ensures { λ r. ⌜ r ≡ frameAnswer (frameCheck (method (now (code .entry)) (now (kinds .entry)) (now (words .entry))) s (now (slots .entry))) ⌝ }
+pub fn check_frame(code: &[u8], kinds: &[u8], words: &[u32], slots: &[u32], s: State) -> Checked
+    ensures { λ r. ⌜ r ≡ checked (frameCheck (method (now (code .entry)) (now (kinds .entry)) (now (words .entry))) s (length (now (slots .entry)))) ⌝ }
 {
     if kinds.len() != words.len() {
-        return FrameCheck::Refused(1);
+        return Checked::Refused(1);
     }
     if kinds.len() > 65536 {
-        return FrameCheck::Refused(1);
+        return Checked::Refused(1);
     }
     if slots.len() < s.max_locals as usize + s.max_stack as usize {
-        return FrameCheck::Refused(1);
+        return Checked::Refused(1);
     }
     if code.len() < 1 {
-        return FrameCheck::Refused(2);
+        return Checked::Refused(2);
     }
     if code.len() > 65535 {
-        return FrameCheck::Refused(2);
+        return Checked::Refused(2);
     }
     if code.len() <= s.pc as usize {
-        return FrameCheck::Refused(2);
+        return Checked::Refused(2);
     }
     if s.depth > s.max_stack as u32 {
-        return FrameCheck::Refused(3);
+        return Checked::Refused(3);
     }
-    FrameCheck::Passed
+    Checked::Passed
 }

@@ -3,12 +3,12 @@ use crate::forward_press::Press;
 use crate::undo_log::entries;
 use crate::undo_log::is_sound;
 use crate::undo_log::restore;
-use frame::FrameCheck;
 use frame::check_frame;
+use rules::Checked;
 use rules::Pressed;
 use rules::State;
 ghost use mathlib.Core.Path.{_≡_};
-ghost use Rattle.frame.specs.FrameAnswer.{frameAnswer};
+ghost use Rattle.rules.specs.Answers.{checked};
 ghost use Rattle.rules.specs.Questions.{method};
 ghost use Rattle.rules.specs.History.{backCheck, backOf};
 ghost use Rattle.history.specs.Left.{pressed};
@@ -21,23 +21,23 @@ fn check_back(
     slots: &[u32],
     log: &[u32],
     s: State,
-) -> FrameCheck
-    ensures { λ r. ⌜ r ≡ frameAnswer (backCheck (method (now (code .entry)) (now (kinds .entry)) (now (words .entry))) s (now (slots .entry)) (now (log .entry))) ⌝ }
+) -> Checked
+    ensures { λ r. ⌜ r ≡ checked (backCheck (method (now (code .entry)) (now (kinds .entry)) (now (words .entry))) s (now (slots .entry)) (now (log .entry))) ⌝ }
 {
     let asked = check_frame(code, kinds, words, slots, s);
-    let FrameCheck::Passed = asked else {
+    let Checked::Passed = asked else {
         return asked;
     };
     if s.count == 0 {
-        return FrameCheck::Refused(13);
+        return Checked::Refused(13);
     }
     if entries(log) < s.count {
-        return FrameCheck::Refused(14);
+        return Checked::Refused(14);
     }
     if !is_sound(code, log, s, s.count - 1) {
-        return FrameCheck::Refused(14);
+        return Checked::Refused(14);
     }
-    FrameCheck::Passed
+    Checked::Passed
 }
 
 // A press of back on any code, pool, slots, log and state. It changes no log word; one that is not granted writes nothing.
@@ -53,11 +53,11 @@ pub fn back(
 {
     let asked = check_back(code, kinds, words, slots, log, s);
     match asked {
-        FrameCheck::Refused(n) => Press {
+        Checked::Refused(n) => Press {
             state: s,
             answer: Pressed::Refused(n),
         },
-        FrameCheck::Passed => {
+        Checked::Passed => {
             let state = restore(slots, log, s);
             Press {
                 state,

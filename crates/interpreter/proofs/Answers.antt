@@ -13,7 +13,7 @@ use Rattle.rules.specs.declared.Decision.the-variants as Decision
 use Rattle.rules.specs.Check.{Check, passed, refused, _else_, _>>_}
 use Rattle.rules.specs.Fetch.{Instruction, fetched}
 use Rattle.rules.specs.Questions.{Method, frameCheck}
-use Rattle.rules.specs.Step.{inside, decideOf}
+use Rattle.rules.specs.Step.{frame, inside, decideOf}
 use Rattle.rules.proofs.Questions as rules
 use Rattle.rules.proofs.Fetched.{fetched-sound}
 use Rattle.rules.proofs.Step.{refused-by-frame, refused-by-fetch, refused-by-needs}
@@ -23,12 +23,12 @@ use Rattle.instructions.specs.declared.decoding.Decoded.the-variants as Decoded
 use Rattle.instructions.specs.Decode.{decoded}
 use Rattle.instructions.specs.Table.{isIn}
 use Rattle.effects.specs.Families.{sharedOpcodes}
-use Rattle.frame.specs.declared.questions.FrameCheck.the-variants as FrameCheck
+use Rattle.rules.specs.declared.Checked.the-variants as Checked
 use Rattle.frame.specs.declared.places.Placed.{Placed}
 use Rattle.frame.specs.declared.places.Placed.the-variants as Placed
-use Rattle.frame.specs.FrameAnswer.{frameAnswer}
+use Rattle.rules.specs.Answers.{checked}
 use Rattle.frame.specs.Place.{placeOf}
-use Rattle.frame.proofs.FrameAnswers.{frame-refused}
+use Rattle.rules.proofs.Answers.{row-refused}
 use Rattle.frame.proofs.Needs.{Says, place-says}
 use Rattle.interpreter.specs.Stages.{sharedIn, switchThere, locatedOf, locatedDecision}
 use Rattle.interpreter.proofs.Decision.{entryAt, listed, switch-there}
@@ -36,8 +36,8 @@ use Rattle.interpreter.proofs.Sources.{located-decides}
 
 -- ---- questions 1 to 3
 
-pub by-frame : (l : Method) (s : State) (slots : List ℕ) (n : ℕ) → FrameCheck.Refused n ≡ frameAnswer (frameCheck l s slots) → decideOf l s slots ≡ Decision.Refused n
-by-frame l s slots n e = refused-by-frame l s slots n (frame-refused (frameCheck l s slots) n e)
+pub by-frame : (l : Method) (s : State) (slots : List ℕ) (n : ℕ) → Checked.Refused n ≡ checked (frameCheck l s (length slots)) → decideOf l s slots ≡ Decision.Refused n
+by-frame l s slots n e = refused-by-frame l (length slots) s (frame s slots) n (row-refused (frameCheck l s (length slots)) n e)
 
 -- ---- questions 4 and 5
 
@@ -63,9 +63,9 @@ unfolding decoded
 not-decoded (passed i) n e = let z : _≡_ {A = ℕ} 0 1 = cc in absurd (omega arith)
 not-decoded (refused k) n e = cc
 
-module _ (l : Method) (s : State) (slots : List ℕ) (framed : frameCheck l s slots ≡ passed tt) where
+module _ (l : Method) (s : State) (slots : List ℕ) (framed : frameCheck l s (length slots) ≡ passed tt) where
   pub by-fetch : (n : ℕ) → Decoded.Refused n ≡ decoded (fetched (l .code) (s .pc)) → decideOf l s slots ≡ Decision.Refused n
-  by-fetch n e = refused-by-fetch l s slots framed n (not-decoded (fetched (l .code) (s .pc)) n e)
+  by-fetch n e = refused-by-fetch l (length slots) s (frame s slots) framed n (not-decoded (fetched (l .code) (s .pc)) n e)
 
   -- ---- questions 6 to 10
 
@@ -74,7 +74,7 @@ module _ (l : Method) (s : State) (slots : List ℕ) (framed : frameCheck l s sl
     says x e = rw (e, d .entered, d .indexed) (place-says (l .code) (s .pc) (d .i) (fetched-sound (l .code) (s .pc) (d .i) (d .at)) s l)
 
     pub by-needs : (n : ℕ) → Placed.Refused n ≡ placeOf entry index s → decideOf l s slots ≡ Decision.Refused n
-    by-needs n e = refused-by-needs l s slots framed (d .i) (d .at) n (says (Placed.Refused n) e)
+    by-needs n e = refused-by-needs l (length slots) s (frame s slots) framed (d .i) (d .at) n (says (Placed.Refused n) e)
 
     pub by-located : (first depth : ℕ) → Placed.At first depth ≡ placeOf entry index s
         → locatedDecision l slots (s .pc) (locatedOf entry index constant (s .pc + size) first depth) ≡ decideOf l s slots
@@ -83,7 +83,7 @@ module _ (l : Method) (s : State) (slots : List ℕ) (framed : frameCheck l s sl
 
     pub next-small : s .pc + size ≤ 65535
     next-small =
-        let f = rules.framed l s slots framed in
+        let f = rules.framed l s (length slots) framed in
         let g = fetched-sound (l .code) (s .pc) (d .i) (d .at) in
         let e = d .sized in
         omega (arith, g .in-code)

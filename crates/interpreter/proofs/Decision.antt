@@ -5,7 +5,7 @@ use mathlib.Core.Bool.{Bool, true, false, _||_, cond}
 use mathlib.Core.List.{List, [], _∷_}
 use lib.Dec.{eqb}
 use lib.IntN.{ℤ, pos}
-use lib.ListN.{take}
+use lib.ListN.{length, take}
 use borrow.Author.Tests.{eqb-true}
 use Rattle.values.specs.Kinds.{int, placesOf}
 use Rattle.values.specs.Integers.{signed, low, _≤ᶻ_}
@@ -119,11 +119,11 @@ module _ (l : Method) (s : State) (i : Instruction) (f : Sound (l .code) (s .pc)
         })
 
     -- once four words are what it works on
-    module _ (slots : List ℕ) (framed : frameCheck l s slots ≡ passed tt) (at : fetched (l .code) (s .pc) ≡ passed i) (needed : needsCheck l s i ≡ passed tt) where
+    module _ (slots : List ℕ) (framed : frameCheck l s (length slots) ≡ passed tt) (at : fetched (l .code) (s .pc) ≡ passed i) (needed : needsCheck l s i ≡ passed tt) where
       pub from-words : (a b c d : ℕ) → wordsAt (i .rule .reads) l s (frame s slots) i ≡ take (works (i .rule)) (a ∷ b ∷ c ∷ d ∷ [])
           → finishOf (l .code) (s .pc) (locatedAt s i first depth) a (effectAt (sharedIn (entryAt i)) (low 32 (i .operand .constant)) a b c d) ≡ decideOf l s slots
       from-words a b c d w =
-          let same : result l s slots i ≡ doesFour (f .row) (i .operand) a b c d =
+          let same : result l s (frame s slots) i ≡ doesFour (f .row) (i .operand) a b c d =
           ap (i .rule .does (i .operand)) w ∙ ap (λ (r : Rule). r .does (i .operand) (take (works r) (a ∷ b ∷ c ∷ d ∷ []))) (f .ruled) in
           let own : effectAt (sharedIn (entryAt i)) (low 32 (i .operand .constant)) a b c d ≡ effectOf (doesFour (f .row) (i .operand) a b c d) =
           rw shared-is (sym (own-effect (i .opcode) (f .row) (f .found) (i .operand .index) (low 32 (i .operand .constant)) (i .operand .pairs) a b c d)
@@ -131,4 +131,4 @@ module _ (l : Method) (s : State) (i : Instruction) (f : Sound (l .code) (s .pc)
           ap (finishOf (l .code) (s .pc) (locatedAt s i first depth) a) own
           ∙ finished-by l s i (locatedAt s i first depth) a (i .operand .constant) (doesFour (f .row) (i .operand) a b c d) (located a b c d)
           ∙ ap (λ (r : Result). decision (outcome l s i r)) (sym same)
-          ∙ sym (decided l s slots framed i at needed)
+          ∙ sym (decided l (length slots) s (frame s slots) framed i at needed)

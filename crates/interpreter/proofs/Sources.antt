@@ -14,7 +14,7 @@ use Rattle.rules.specs.Forms.{Rule, Source, stack, local, pool}
 use Rattle.rules.specs.Instructions.{rowOf}
 use Rattle.rules.specs.Fetch.{Instruction, fetched}
 use Rattle.rules.specs.Questions.{Method, popped, pushed, constantThere, frameCheck, needsCheck}
-use Rattle.rules.specs.Step.{base, decideOf}
+use Rattle.rules.specs.Step.{frame, base, decideOf}
 use Rattle.rules.proofs.Rows.{of-row, small, small-row, one-named, local-within, works, works-few}
 use Rattle.rules.proofs.Questions.{framed, needed}
 use Rattle.rules.proofs.Fetched.{Sound, fetched-sound}
@@ -36,7 +36,7 @@ one-or-two (a ∷ []) n e h = rw (sym e)
 one-or-two (a ∷ b ∷ []) n e h = rw (sym e)
 one-or-two (a ∷ b ∷ c ∷ ws) n e h = absurd (omega arith)
 
-module _ (l : Method) (s : State) (slots : List ℕ) (passes : frameCheck l s slots ≡ passed tt) (i : Instruction) (at : fetched (l .code) (s .pc) ≡ passed i) (first depth : ℕ) (st : Stands l s i first depth) where
+module _ (l : Method) (s : State) (slots : List ℕ) (passes : frameCheck l s (length slots) ≡ passed tt) (i : Instruction) (at : fetched (l .code) (s .pc) ≡ passed i) (first depth : ℕ) (st : Stands l s i first depth) where
   sound : Sound (l .code) (s .pc) i
   sound = fetched-sound (l .code) (s .pc) i at
 
@@ -60,7 +60,7 @@ module _ (l : Method) (s : State) (slots : List ℕ) (passes : frameCheck l s sl
     unfolding locatedOf
     on-stack e =
         let n = needed l s i needs-pass in
-        let f = framed l s slots passes in
+        let f = framed l s (length slots) passes in
         let k = rw e at few in
         from-words l s i sound first depth st slots passes at needs-pass _ _ _ _
         (rw (e, ← st .based) (few-of-first slots (s .«max_locals» + s .«max_stack») (base s i) (popped i) k (f .room) (λ h. omega arith)))
@@ -69,7 +69,7 @@ module _ (l : Method) (s : State) (slots : List ℕ) (passes : frameCheck l s sl
     unfolding locatedOf
     in-local e =
         let n = needed l s i needs-pass in
-        let f = framed l s slots passes in
+        let f = framed l s (length slots) passes in
         let k = rw e at few in
         let one = one-named (i .rule) (rw (sound .ruled) (of-row (λ r. small (r .rule)) (λ r. true) (rowOf (i .opcode)) (sound .row) (small-row (i .opcode)) (sound .found))) in
         from-words l s i sound first depth st slots passes at needs-pass _ _ _ _
@@ -96,12 +96,12 @@ module _ (l : Method) (s : State) (slots : List ℕ) (passes : frameCheck l s sl
         go : (t : Bool) → constantThere (l .kinds) (i .operand .index) (j ∷ k ∷ []) ≡ t
             → readDecision (l .code) (s .pc) (locatedAt s i first depth) (fromPool (found t (take (places j) (drop (i .operand .index) (l .words))))) ≡ decideOf l s slots
         go true e =
-            let f = framed l s slots passes in
+            let f = framed l s (length slots) passes in
             let c = constant-within (l .kinds) (i .operand .index) j k alike e in
             let long : length (take (places j) (drop (i .operand .index) (l .words))) ≡ places j = length-take-le (places j) (drop (i .operand .index) (l .words)) (omega (arith, length-drop (i .operand .index) (l .words))) in
             from-words l s i sound first depth st slots passes at (asks true e) _ _ _ _
             (rw (reads, its-places) (one-or-two (take (places j) (drop (i .operand .index) (l .words))) (places j) long short))
-        go false e = sym (refused-by-needs l s slots passes i at 10 (asks false e))
+        go false e = sym (refused-by-needs l (length slots) s (frame s slots) passes i at 10 (asks false e))
 
   -- ---- THE LAW: a located instruction comes to what the rules decide
 

@@ -17,7 +17,7 @@ use Rattle.rules.specs.Check.{passed}
 use Rattle.rules.specs.Questions.{Method, frameCheck}
 use Rattle.rules.specs.Step.{decideOf, moved, written}
 use Rattle.rules.proofs.Questions.{frame-passed}
-use Rattle.rules.proofs.Legal.{ordinary-legal, written-length, still-framed}
+use Rattle.rules.proofs.Legal.{Legal, ordinary-legal, written-length, still-framed}
 use Rattle.interpreter.specs.Advance.{Reached, stands, advanceFrom}
 
 -- a decision that is not ordinary, as `let .. else` leaves it
@@ -55,8 +55,8 @@ module _ (l : Method) (s : State) (slots : List ℕ) (r : Reached) (e : r ≡ ad
   pub slots-there : r .slots ≡ slots
   slots-there = ap (λ (x : Reached). x .slots) (e ∙ advance-none l 0 s slots)
 
-  pub ordinary-there : (u : Update) → r .decision ≡ Ordinary u → decideOf l s (r .slots) ≡ Ordinary u
-  ordinary-there u h = ap (decideOf l s) slots-there ∙ sym decided-there ∙ h
+  pub legal-there : (u : Update) → r .decision ≡ Ordinary u → Legal l s (length (r .slots)) u
+  legal-there u h = ordinary-legal l s (r .slots) u (ap (decideOf l s) slots-there ∙ sym decided-there ∙ h)
 
 -- ---- the loop
 
@@ -64,19 +64,20 @@ module _ (l : Method) (s : State) (slots : List ℕ) (r : Reached) (e : r ≡ ad
 pub record Going (l : Method) (slots₀ : List ℕ) (most : ℕ) (s₀ : State) (slots : List ℕ) (s : State) (n : ℕ) : Type 0 where
   pub upto : n ≤ most
   pub long : length slots ≡ length slots₀
-  pub framed : frameCheck l s slots ≡ passed tt
+  pub framed : frameCheck l s (length slots) ≡ passed tt
   pub rest : advanceFrom l (most - n) n s slots ≡ advanceFrom l most 0 s₀ slots₀
 
 module _ (l : Method) (slots₀ : List ℕ) (most : ℕ) (s₀ : State) (slots : List ℕ) (s : State) (n : ℕ) (g : Going l slots₀ most s₀ slots s n) where
   pub turn : (n ≡ most → ⊥) → (u : Update) → decideOf l s slots ≡ Ordinary u → Going l slots₀ most s₀ (written u slots) (moved s (u .pc) (u .depth) 0) (n + 1)
   turn h u e =
       let legal = ordinary-legal l s slots u e in
+      let same = written-length l s slots u legal in
       let below : n < most = omega (arith, g .upto, h) in
       let left : suc (most - (n + 1)) ≡ most - n = omega arith in
       record {
         upto = omega arith;
-        long = written-length l s slots u legal ∙ g .long;
-        framed = frame-passed l (moved s (u .pc) (u .depth) 0) (written u slots) (still-framed l s slots u legal 0);
+        long = same ∙ g .long;
+        framed = rw same (frame-passed l (moved s (u .pc) (u .depth) 0) (length slots) (still-framed l s (length slots) u legal 0));
         rest =
             ap (λ (k : ℕ). advanceFrom l (most - (n + 1)) k (moved s (u .pc) (u .depth) 0) (written u slots)) (add-one n)
             ∙ sym (advance-ordinary l n s slots (most - (n + 1)) u e) ∙ ap (λ (b : ℕ). advanceFrom l b n s slots) left ∙ g .rest;

@@ -2,12 +2,13 @@
 // decision of a step is compiled into one loop.
 use crate::deciding::decide_framed;
 use crate::stepping::moved;
-use frame::FrameCheck;
 use frame::check_frame;
 use frame::commit;
+use rules::Checked;
 use rules::Decision;
 use rules::State;
 ghost use mathlib.Core.Path.{_≡_};
+ghost use lib.ListN.{length};
 ghost use Prim.Native.Nat.{_≤_};
 ghost use Rattle.rules.specs.Check.{passed};
 ghost use Rattle.rules.specs.Questions.{method, frameCheck};
@@ -30,7 +31,7 @@ pub(crate) fn advance_framed(
     s: State,
     most: u64,
 ) -> Reached
-    requires { ⌜ frameCheck (method (now code) (now kinds) (now words)) s (now slots) ≡ passed tt ⌝ }
+    requires { ⌜ frameCheck (method (now code) (now kinds) (now words)) s (length (now slots)) ≡ passed tt ⌝ }
     ensures { λ r. ⌜ reached r (now (slots .exit)) ≡ advanceFrom (method (now (code .entry)) (now (kinds .entry)) (now (words .entry))) most 0 s (now (slots .entry)) ⌝ }
     ensures { λ r. ⌜ r .steps ≤ most ⌝ }
 {
@@ -71,11 +72,11 @@ pub fn advance(
 {
     let asked = check_frame(code, kinds, words, slots, s);
     match asked {
-        FrameCheck::Refused(n) => Reached {
+        Checked::Refused(n) => Reached {
             state: s,
             steps: 0,
             decision: Decision::Refused(n),
         },
-        FrameCheck::Passed => advance_framed(code, kinds, words, slots, s, most),
+        Checked::Passed => advance_framed(code, kinds, words, slots, s, most),
     }
 }

@@ -5,12 +5,12 @@ use crate::finishing::locate;
 use crate::reading::Read;
 use crate::reading::read_words;
 use effects::effect;
-use frame::FrameCheck;
 use frame::Placed;
 use frame::check_frame;
 use frame::place;
 use instructions::Decoded;
 use instructions::decode;
+use rules::Checked;
 use rules::Decision;
 use rules::State;
 ghost use mathlib.Core.Path.{_≡_};
@@ -54,7 +54,7 @@ pub(crate) fn decide_framed(
     slots: &[u32],
     s: State,
 ) -> Decision
-    requires { ⌜ frameCheck (method (now code) (now kinds) (now words)) s (now slots) ≡ passed tt ⌝ }
+    requires { ⌜ frameCheck (method (now code) (now kinds) (now words)) s (length (now slots)) ≡ passed tt ⌝ }
     ensures { λ r. ⌜ r ≡ decideOf (method (now (code .entry)) (now (kinds .entry)) (now (words .entry))) s (now (slots .entry)) ⌝ }
 {
     let pc = s.pc;
@@ -86,7 +86,7 @@ pub fn decide(code: &[u8], kinds: &[u8], words: &[u32], slots: &[u32], s: State)
 {
     let asked = check_frame(code, kinds, words, slots, s);
     match asked {
-        FrameCheck::Refused(n) => Decision::Refused(n),
-        FrameCheck::Passed => decide_framed(code, kinds, words, slots, s),
+        Checked::Refused(n) => Decision::Refused(n),
+        Checked::Passed => decide_framed(code, kinds, words, slots, s),
     }
 }

@@ -1,16 +1,18 @@
 // A run: ordinary steps, one after the other, up to a budget.
 use crate::advancing::advance_framed;
 use crate::stepping::moved;
-use frame::FrameCheck;
 use frame::check_frame;
 use frame::commit;
+use rules::Checked;
 use rules::Decision;
 use rules::End;
 use rules::State;
 ghost use mathlib.Core.Path.{_≡_};
+ghost use lib.ListN.{length};
 ghost use Rattle.rules.specs.Check.{passed};
 ghost use Rattle.rules.specs.Questions.{method, frameCheck};
-ghost use Rattle.rules.specs.Run.{runFrom, runOf, Told};
+ghost use Rattle.rules.specs.Step.{machine};
+ghost use Rattle.rules.specs.Run.{runFrom, runOf, Account};
 ghost use Rattle.interpreter.specs.Taken.{ran, endOf, endedAt};
 
 // The state that a run reached, how many ordinary steps it took, and what ended it.
@@ -49,8 +51,8 @@ fn run_framed(
     s: State,
     budget: u64,
 ) -> Ran
-    requires { ⌜ frameCheck (method (now code) (now kinds) (now words)) s (now slots) ≡ passed tt ⌝ }
-    ensures { λ r. ⌜ ran r (now (slots .exit)) ≡ runFrom (method (now (code .entry)) (now (kinds .entry)) (now (words .entry))) budget 0 s (now (slots .entry)) ⌝ }
+    requires { ⌜ frameCheck (method (now code) (now kinds) (now words)) s (length (now slots)) ≡ passed tt ⌝ }
+    ensures { λ r. ⌜ ran r (now (slots .exit)) ≡ runFrom (machine (now (code .entry)) (now (kinds .entry)) (now (words .entry))) budget 0 s (now (slots .entry)) ⌝ }
 {
     if budget == 0 {
         return ended(s, 0, End::Stopped);
@@ -81,16 +83,16 @@ pub fn run(
     s: State,
     budget: u64,
 ) -> Ran
-    ensures { λ r. ⌜ ran r (now (slots .exit)) ≡ runOf (method (now (code .entry)) (now (kinds .entry)) (now (words .entry))) budget s (now (slots .entry)) ⌝ }
-    ensures { λ r. ⌜ Told (method (now (code .entry)) (now (kinds .entry)) (now (words .entry))) budget s (now (slots .entry)) (ran r (now (slots .exit))) ⌝ }
+    ensures { λ r. ⌜ ran r (now (slots .exit)) ≡ runOf (machine (now (code .entry)) (now (kinds .entry)) (now (words .entry))) budget s (now (slots .entry)) ⌝ }
+    ensures { λ r. ⌜ Account (machine (now (code .entry)) (now (kinds .entry)) (now (words .entry))) budget s (now (slots .entry)) (ran r (now (slots .exit))) ⌝ }
 {
     let asked = check_frame(code, kinds, words, slots, s);
     match asked {
-        FrameCheck::Refused(n) => Ran {
+        Checked::Refused(n) => Ran {
             state: s,
             steps: 0,
             end: End::Refused(n),
         },
-        FrameCheck::Passed => run_framed(code, kinds, words, slots, s, budget),
+        Checked::Passed => run_framed(code, kinds, words, slots, s, budget),
     }
 }

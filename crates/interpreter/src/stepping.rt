@@ -4,8 +4,7 @@ use frame::commit;
 use rules::Decision;
 use rules::State;
 ghost use mathlib.Core.Path.{_≡_};
-ghost use Rattle.rules.specs.Questions.{method};
-ghost use Rattle.rules.specs.Step.{moved, stepOf};
+ghost use Rattle.rules.specs.Step.{machine, moved, stepOf};
 ghost use Rattle.interpreter.specs.Taken.{stepped};
 
 // The state after a step, and what the step came to.
@@ -29,7 +28,7 @@ pub fn moved(s: State, pc: u32, depth: u32, count: u64) -> State
 
 // A step without history: an ordinary one moves the state, with count 0, and writes its words; any other changes nothing.
 pub fn step(code: &[u8], kinds: &[u8], words: &[u32], slots: &mut [u32], s: State) -> Stepped
-    ensures { λ r. ⌜ stepped r (now (slots .exit)) ≡ stepOf (method (now (code .entry)) (now (kinds .entry)) (now (words .entry))) s (now (slots .entry)) ⌝ }
+    ensures { λ r. ⌜ stepped r (now (slots .exit)) ≡ stepOf (machine (now (code .entry)) (now (kinds .entry)) (now (words .entry))) s (now (slots .entry)) ⌝ }
 {
     let reached = advance(code, kinds, words, slots, s, 0);
     let decision = reached.decision;

@@ -172,7 +172,7 @@ module _ (sheet slots kinds words : List ℕ) (bytes : (i : ℕ) → u8 sheet i 
 
     walk-given : (log : List ℕ)
         → walkFrom (record { runs = method (codeOf sheet (acceptedLoad p)) (loadedPool sheet p kinds words .kinds) (loadedPool sheet p kinds words .words); decides = rules (method (codeOf sheet (acceptedLoad p)) (loadedPool sheet p kinds words .kinds) (loadedPool sheet p kinds words .words)) })
-            (loadedState (p .«max_stack») (p .«max_locals»)) (loadedSlots sheet p slots) log
+        (loadedState (p .«max_stack») (p .«max_locals»)) (loadedSlots sheet p slots) log
         ≡ plainWalkOf rules sheet (lengths (length log))
     walk-given log =
         ap (λ (l : Method). build log l (stageOf (loadedState (p .«max_stack») (p .«max_locals»)) (loadedSlots sheet p slots))) (method-given (length log))
@@ -182,7 +182,7 @@ module _ (sheet slots kinds words : List ℕ) (bytes : (i : ℕ) → u8 sheet i 
     by-reading : (log : List ℕ) (presses : List Press) (m : AfterLoad)
         → record { loaded = acceptedLoad p; slots = loadedSlots sheet p slots; kinds = loadedPool sheet p kinds words .kinds; words = loadedPool sheet p kinds words .words } ≡ m
         → Demand3 (plainWalkIn rules sheet (loadedMethod sheet m) (m .slots) log) (m .slots) presses
-            (walkOf (record { runs = loadedMethod sheet m; decides = rules (loadedMethod sheet m) }) presses (m .loaded .state) (m .slots) log)
+        (walkOf (record { runs = loadedMethod sheet m; decides = rules (loadedMethod sheet m) }) presses (m .loaded .state) (m .slots) log)
     by-reading log presses m e =
         rw (← e) (rewalked _ _ _ (walk-given log)
         (whole-list _ (law _) _ (loadedSlots sheet p slots) log (loaded-framed sheet slots kinds words bytes p read fits) refl presses))
@@ -191,8 +191,8 @@ module _ (sheet slots kinds words : List ℕ) (bytes : (i : ℕ) → u8 sheet i 
 pub demand3 : (rules : Method → Decider) → ((l : Method) → Lawful (record { runs = l; decides = rules l }))
     → (sheet slots kinds words : List ℕ) → ((i : ℕ) → u8 sheet i < 256) → loadOf sheet slots kinds words .loaded .answer ≡ Accepted → (log : List ℕ) (presses : List Press)
     → let m = loadOf sheet slots kinds words in
-      Demand3 (plainWalkIn rules sheet (loadedMethod sheet m) (m .slots) log) (m .slots) presses
-        (walkOf (record { runs = loadedMethod sheet m; decides = rules (loadedMethod sheet m) }) presses (m .loaded .state) (m .slots) log)
+    Demand3 (plainWalkIn rules sheet (loadedMethod sheet m) (m .slots) log) (m .slots) presses
+    (walkOf (record { runs = loadedMethod sheet m; decides = rules (loadedMethod sheet m) }) presses (m .loaded .state) (m .slots) log)
 demand3 rules law sheet slots kinds words bytes accepted log presses =
     let r = was-read sheet slots kinds words accepted in
     by-reading sheet slots kinds words bytes (r .reading) (r .read) (r .fits) rules law log presses (loadOf sheet slots kinds words)

@@ -19,7 +19,7 @@ use Rattle.rules.specs.Forms.{Result, pushes, stores, divides, branches,
 use Rattle.rules.specs.Instructions.{rowOf}
 use Rattle.rules.specs.Fetch.{Instruction, fetched}
 use Rattle.rules.specs.Questions.{Method, frameSize, pushed, frameCheck, needsCheck}
-use Rattle.rules.specs.Step.{base, firstPlace, inside, ordinary, following, target, outcome, decision, decideFrame, moved, updateWords, written}
+use Rattle.rules.specs.Step.{frame, base, firstPlace, inside, ordinary, following, target, outcome, decision, decideFrame, decideOf, moved, updateWords, written}
 use Rattle.rules.proofs.Check.{Holds, asked, after, bound, held, either}
 use Rattle.rules.proofs.Rows.{of-row, small, small-row, few-pushed, one-named, few-named, local-within}
 use Rattle.rules.proofs.Questions.{Framed, framed, Needed, needed}
@@ -136,5 +136,5 @@ still-framed l s n u legal count =
       deep = legal .new-depth;
     }
 
-pub ordinary-legal : (l : Method) (s : State) (n : ℕ) (words : List ℕ) (u : Update) → decideFrame l n s words ≡ Ordinary u → Legal l s n u
-ordinary-legal l s n words u e = subst (IfOrdinary (Legal l s n)) e (decide-legal l n s words)
+pub ordinary-legal : (l : Method) (s : State) (slots : List ℕ) (u : Update) → decideOf l s slots ≡ Ordinary u → Legal l s (length slots) u
+ordinary-legal l s slots u e = subst (IfOrdinary (Legal l s (length slots))) e (decide-legal l (length slots) s (frame s slots))

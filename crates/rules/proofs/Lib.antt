@@ -5,6 +5,7 @@ pub mod Questions
 pub mod Step
 pub mod Fetched
 pub mod Legal
+pub mod Answers
 pub mod Numbers
 pub mod Lawful
 pub mod Run

@@ -3,6 +3,8 @@
 use Prim.Native.Nat.{ℕ, _/_, _%_, _^_}
 use Rattle.values.specs.declared.Value.{Value}
 use Rattle.values.specs.declared.Value.the-variants.{Void, Int, Float, Reference, Long, Double}
+use Rattle.rules.specs.declared.Checked.{Checked}
+use Rattle.rules.specs.declared.Checked.the-variants as Checked
 use Rattle.rules.specs.declared.Decision.{Decision}
 use Rattle.rules.specs.declared.Decision.the-variants as Decision
 use Rattle.rules.specs.declared.End.{End}
@@ -12,6 +14,12 @@ use Rattle.rules.specs.declared.Pressed.the-variants as Pressed
 use Rattle.rules.specs.declared.Load.{Load}
 use Rattle.rules.specs.declared.Load.the-variants as Load
 use Rattle.rules.specs.declared.Answer.{Answer}
+use Rattle.rules.specs.Check.{Check, passed, refused}
+
+-- a row of questions: yes to all of them, or the number of the first no
+abbrev pub checked : Check (Unit {0}) → Checked
+checked (passed t) = Checked.Passed
+checked (refused n) = Checked.Refused n
 
 -- a number and the bits of a value
 abbrev pub answer : ℕ → ℕ → Answer

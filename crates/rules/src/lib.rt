@@ -25,6 +25,12 @@ pub struct Update {
     pub w5: u32,
 }
 
+// What a row of questions answers: yes to all of them, or the number of the first no.
+pub enum Checked {
+    Passed,
+    Refused(u32),
+}
+
 // What one step comes to, before anything is written: an ordinary step, an outcome (a return or an ArithmeticException) or a refusal.
 pub enum Decision {
     Ordinary(Update),

@@ -22,7 +22,7 @@ use Rattle.workbook.specs.Calls.{unchanged, allRefused, pressesCall}
 
 -- ---- question 1 says no of a frame that its slots do not hold
 
-pub no-room : (l : Method) (s : State) (slots : List ℕ) → length slots < s .«max_locals» + s .«max_stack» → frameCheck l s slots ≡ refused 1
+pub no-room : (l : Method) (s : State) (slots : List ℕ) → length slots < s .«max_locals» + s .«max_stack» → frameCheck l s (length slots) ≡ refused 1
 unfolding frameCheck _else_ _>>_
 no-room l s slots h = rw (lt-leb (s .«max_locals» + s .«max_stack») (length slots) h) (go (eqb (length (l .kinds)) (length (l .words))) (leb (length (l .kinds)) 65536))
   where
@@ -33,10 +33,10 @@ no-room l s slots h = rw (lt-leb (s .«max_locals» + s .«max_stack») (length 
 
 -- ---- so every press is answered with 1, and nothing changes
 
-module _ (l : Method) (s : State) (slots : List ℕ) (no : frameCheck l s slots ≡ refused 1) where
+module _ (l : Method) (s : State) (slots : List ℕ) (no : frameCheck l s (length slots) ≡ refused 1) where
   press-refused : (p : Press) (log : List ℕ) → pressOf l p s slots log ≡ kept s slots log (Refused 1)
   unfolding pressOf
-  press-refused forward log = forward-by s slots log l _ (refused-by-frame l s slots 1 no)
+  press-refused forward log = forward-by s slots log l _ (refused-by-frame l (length slots) s (frame s slots) 1 no)
   press-refused back log = back-by l s slots log _ (back-frame l s slots log 1 no)
 
   walk-refused : (bytes log : List ℕ) → walkOf l (pressesOfBytes bytes) s slots log ≡ record { state = s; slots = slots; log = log; answers = allRefused bytes }

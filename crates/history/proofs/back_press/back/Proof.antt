@@ -2,7 +2,7 @@
 use denote.Ref.{now}
 use Rattle.rules.specs.Questions.{method}
 use mathlib.Core.Path.{sym, _∙_}
-use Rattle.frame.proofs.FrameAnswers.{frame-passed, frame-refused}
+use Rattle.rules.proofs.Answers.{row-passed, row-refused}
 use Rattle.rules.proofs.History.{back-by, back-passed}
 use borrow.Author.Needs.{needs}
 use Rattle.history.proofs.back_press.back.Statement.{statement}
@@ -21,7 +21,7 @@ restore-requires : tie.Need-restore-requires
 restore-requires c κs =
     let a = c .before .before .before .before .before .before .before .before .before .before .args in
     let l = method (now (a .code)) (now (a .kinds)) (now (a .words)) in
-    let passes = frame-passed _ (sym (c .before .enum-told .given .1) ∙ c .before .before .before .check-back .ensures) in
+    let passes = row-passed _ (sym (c .before .enum-told .given .1) ∙ c .before .before .before .check-back .ensures) in
     let b = back-passed l (a .s) (now (a .slots)) (now (a .log)) passes in
     ((b .some, b .reached), (b .few, b .within))
 
@@ -32,7 +32,7 @@ returns : tie.Need-returns
 returns c =
     let a = c .before .before .before .before .before .before .before .before .before .before .args in
     let l = method (now (a .code)) (now (a .kinds)) (now (a .words)) in
-    sym (back-by l (a .s) (now (a .slots)) (now (a .log)) _ (frame-refused _ _ (sym (c .before .asked .given .1) ∙ c .before .before .before .check-back .ensures)))
+    sym (back-by l (a .s) (now (a .slots)) (now (a .log)) _ (row-refused _ _ (sym (c .before .asked .given .1) ∙ c .before .before .before .check-back .ensures)))
 
 same-length-2 : tie.Need-same-length-2
 same-length-2 c = search needs
@@ -41,7 +41,7 @@ returns-2 : tie.Need-returns-2
 returns-2 c =
     let a = c .before .before .before .before .before .before .before .before .before .before .before .before .before .args in
     let l = method (now (a .code)) (now (a .kinds)) (now (a .words)) in
-    let passes = frame-passed _ (sym (c .before .before .before .before .enum-told .given .1) ∙ c .before .before .before .before .before .before .check-back .ensures) in
+    let passes = row-passed _ (sym (c .before .before .before .before .enum-told .given .1) ∙ c .before .before .before .before .before .before .check-back .ensures) in
     c .before .before .restore .ensures ∙ sym (back-by l (a .s) (now (a .slots)) (now (a .log)) _ passes)
 
 pub back-spec : {M : Type 1} → statement M

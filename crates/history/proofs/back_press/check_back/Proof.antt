@@ -6,11 +6,11 @@ use Prim.Native.Nat.{_+_, _-_, _≤_}
 use mathlib.Core.Path.{sym, ap, _∙_}
 use lib.ListN.{length}
 use borrow.Author.Tests.{not-true, not-false}
-use Rattle.frame.specs.FrameAnswer.{frameAnswer}
+use Rattle.rules.specs.Answers.{checked}
 use Rattle.rules.specs.History.{entryAt, entryCheck}
 use Rattle.rules.proofs.Check.{is-passed}
 use Rattle.rules.proofs.History.{not-sound, back-frame, back-first, back-short, back-entry}
-use Rattle.frame.proofs.FrameAnswers.{frame-passed, frame-refused}
+use Rattle.rules.proofs.Answers.{row-passed, row-refused}
 use borrow.Author.Needs.{needs}
 use Rattle.history.proofs.back_press.check_back.Statement.{statement}
 use Rattle.history.proofs.back_press.check_back.Tie as tie
@@ -28,13 +28,13 @@ returns : tie.Need-returns
 returns c =
     let a = c .before .before .before .before .before .before .before .before .args in
     let l = method (now (a .code)) (now (a .kinds)) (now (a .words)) in
-    c .enum-told2 .given .1 ∙ ap frameAnswer (sym (back-frame l (a .s) (now (a .slots)) (now (a .log)) _ (frame-refused _ _ (sym (c .enum-told2 .given .1) ∙ c .before .before .check-frame .ensures))))
+    c .enum-told2 .given .1 ∙ ap checked (sym (back-frame l (a .s) (now (a .slots)) (now (a .log)) _ (row-refused _ _ (sym (c .enum-told2 .given .1) ∙ c .before .before .check-frame .ensures))))
 
 returns-2 : tie.Need-returns-2
 returns-2 c =
     let a = c .before .before .before .before .before .before .before .before .before .before .args in
     let l = method (now (a .code)) (now (a .kinds)) (now (a .words)) in
-    let f = frame-passed _ (sym (c .before .before .enum-told .given .1) ∙ c .before .before .before .before .check-frame .ensures) in
+    let f = row-passed _ (sym (c .before .before .enum-told .given .1) ∙ c .before .before .before .before .check-frame .ensures) in
     rw (back-first l (a .s) (now (a .slots)) (now (a .log)) f (c .if1 .taken))
 
 entries-requires : tie.Need-entries-requires
@@ -44,7 +44,7 @@ returns-3 : tie.Need-returns-3
 returns-3 c =
     let a = c .before .before .before .before .before .before .before .before .before .before .before .before .before .args in
     let l = method (now (a .code)) (now (a .kinds)) (now (a .words)) in
-    let f = frame-passed _ (sym (c .before .before .before .before .before .enum-told .given .1) ∙ c .before .before .before .before .before .before .before .check-frame .ensures) in
+    let f = row-passed _ (sym (c .before .before .before .before .before .enum-told .given .1) ∙ c .before .before .before .before .before .before .before .check-frame .ensures) in
     rw (back-short l (a .s) (now (a .slots)) (now (a .log)) f (omega (arith, c .before .before .before .if1 .left)) (omega (arith, c .if2 .taken, c .before .before .entries .ensures)))
 
 sub-is-sound : tie.Need-sub-is-sound
@@ -60,14 +60,14 @@ returns-4 : tie.Need-returns-4
 returns-4 c =
     let a = c .before .before .before .before .before .before .before .before .before .before .before .before .before .before .before .before .args in
     let l = method (now (a .code)) (now (a .kinds)) (now (a .words)) in
-    let f = frame-passed _ (sym (c .before .before .before .before .before .before .before .before .enum-told .given .1) ∙ c .before .before .before .before .before .before .before .before .before .before .check-frame .ensures) in
+    let f = row-passed _ (sym (c .before .before .before .before .before .before .before .before .enum-told .given .1) ∙ c .before .before .before .before .before .before .before .before .before .before .check-frame .ensures) in
     rw (back-entry l (a .s) (now (a .slots)) (now (a .log)) f (omega (arith, c .before .before .before .before .before .before .if1 .left)) (omega (arith, c .before .before .before .if2 .left, c .before .before .before .before .before .entries .ensures)), not-sound _ _ _ _ (sym (c .before .is-sound .ensures) ∙ not-true _ (c .if3 .taken)))
 
 returns-5 : tie.Need-returns-5
 returns-5 c =
     let a = c .before .before .before .before .before .before .before .before .before .before .before .before .before .before .before .before .args in
     let l = method (now (a .code)) (now (a .kinds)) (now (a .words)) in
-    let f = frame-passed _ (sym (c .before .before .before .before .before .before .before .before .enum-told .given .1) ∙ c .before .before .before .before .before .before .before .before .before .before .check-frame .ensures) in
+    let f = row-passed _ (sym (c .before .before .before .before .before .before .before .before .enum-told .given .1) ∙ c .before .before .before .before .before .before .before .before .before .before .check-frame .ensures) in
     rw (back-entry l (a .s) (now (a .slots)) (now (a .log)) f (omega (arith, c .before .before .before .before .before .before .if1 .left)) (omega (arith, c .before .before .before .if2 .left, c .before .before .before .before .before .entries .ensures)), is-passed (entryCheck (now (a .code)) (a .s) (now (a .log)) (entryAt (a .s .count - 1))) (sym (c .before .is-sound .ensures) ∙ not-false _ (c .if3 .left)))
 
 pub check-back-spec : {M : Type 1} → statement M

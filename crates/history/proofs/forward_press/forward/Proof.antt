@@ -2,8 +2,7 @@
 use mathlib.Core.Path.{_∙_}
 use denote.Ref.{now}
 use Rattle.rules.specs.Questions.{method}
-use Rattle.rules.proofs.Legal.{ordinary-legal}
-use Rattle.interpreter.proofs.Steps.{ordinary-there}
+use Rattle.interpreter.proofs.Steps.{legal-there}
 use Rattle.history.proofs.Forwards.{forward-there}
 use borrow.Author.Needs.{needs}
 use Rattle.history.proofs.forward_press.forward.Statement.{statement}
@@ -19,7 +18,7 @@ grant-requires : tie.Need-grant-requires
 grant-requires c κs =
     let a = c .before .before .before .before .before .before .before .before .before .before .before .before .before .before .args in
     let l = method (now (a .code)) (now (a .kinds)) (now (a .words)) in
-    let k = ordinary-legal l (a .s) _ _ (ordinary-there l (a .s) (now (a .slots)) _ (c .before .before .before .before .before .before .before .advance .ensures) _ (c .before .before .before .decision .given .1)) in
+    let k = legal-there l (a .s) (now (a .slots)) _ (c .before .before .before .before .before .before .before .advance .ensures) _ (c .before .before .before .decision .given .1) in
     (k .few, k .within, k .frame-there .room)
 
 enum-known-decision-2 : tie.Need-enum-known-decision-2

@@ -2,7 +2,7 @@
 use mathlib.Core.Path.{refl, sym, _∙_}
 use mathlib.Core.Logic.{inr}
 use denote.Ref.{now}
-use Rattle.frame.proofs.FrameAnswers.{frame-passed}
+use Rattle.rules.proofs.Answers.{row-passed}
 use Rattle.rules.specs.Questions.{method}
 use Rattle.interpreter.proofs.Answers.{by-frame}
 use Rattle.interpreter.proofs.Steps.{advance-other}
@@ -20,7 +20,7 @@ enum-told : tie.Need-enum-told
 enum-told c = search needs
 
 advance-framed-requires : tie.Need-advance-framed-requires
-advance-framed-requires c κs = frame-passed _ (sym (c .before .enum-told .given .1) ∙ c .before .before .before .check-frame .ensures)
+advance-framed-requires c κs = row-passed _ (sym (c .before .enum-told .given .1) ∙ c .before .before .before .check-frame .ensures)
 
 same-length : tie.Need-same-length
 same-length c = search needs
@@ -29,7 +29,7 @@ returns : tie.Need-returns
 returns c =
     let a = c .before .before .before .before .before .before .before .before .before .args in
     let l = method (now (a .code)) (now (a .kinds)) (now (a .words)) in
-    sym (advance-other l 0 (a .s) (now (a .slots)) (a .most) _ (by-frame _ _ _ _ (sym (c .before .asked .given .1) ∙ c .before .before .before .check-frame .ensures)) (inr (inr refl)))
+    sym (advance-other l 0 (a .s) (now (a .slots)) (a .most) _ (by-frame l (a .s) (now (a .slots)) _ (sym (c .before .asked .given .1) ∙ c .before .before .before .check-frame .ensures)) (inr (inr refl)))
 
 same-length-2 : tie.Need-same-length-2
 same-length-2 c = search needs

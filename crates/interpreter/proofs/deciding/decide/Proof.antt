@@ -1,6 +1,7 @@
 -- `decide` meets its contract. Assumes nothing.
 use mathlib.Core.Path.{sym, _∙_}
-use Rattle.frame.proofs.FrameAnswers.{frame-passed}
+use denote.Ref.{now}
+use Rattle.rules.proofs.Answers.{row-passed}
 use Rattle.interpreter.proofs.Answers.{by-frame}
 use borrow.Author.Needs.{needs}
 use Rattle.interpreter.proofs.deciding.decide.Statement.{statement}
@@ -16,10 +17,10 @@ enum-told : tie.Need-enum-told
 enum-told c = search needs
 
 decide-framed-requires : tie.Need-decide-framed-requires
-decide-framed-requires c κs = frame-passed _ (sym (c .enum-told .given .1) ∙ c .before .before .check-frame .ensures)
+decide-framed-requires c κs = row-passed _ (sym (c .enum-told .given .1) ∙ c .before .before .check-frame .ensures)
 
 returns : tie.Need-returns
-returns c = sym (by-frame _ _ _ _ (sym (c .before .asked .given .1) ∙ c .before .before .before .check-frame .ensures))
+returns c = sym (by-frame _ _ (now (c .before .before .before .before .before .before .before .before .args .slots)) _ (sym (c .before .asked .given .1) ∙ c .before .before .before .check-frame .ensures))
 
 returns-2 : tie.Need-returns-2
 returns-2 c = search needs

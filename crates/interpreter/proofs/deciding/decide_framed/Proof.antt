@@ -49,7 +49,7 @@ decide-located-requires c κs =
     let l = method (now (a .code)) (now (a .kinds)) (now (a .words)) in
     let f = c .before .before .before .before .before .before .before .before .before .before .before .before .before .pre in
     let d = decodes (l .code) (a .s .pc) _ _ _ _ (sym (c .before .before .before .before .before .before .decoded2 .given .1) ∙ c .before .before .before .before .before .before .before .before .decode .ensures) in
-    rw (c .locate .ensures) (framed l (a .s) (now (a .slots)) f .short-code, (in-table l (a .s) (now (a .slots)) f _ _ _ _ d, in-code l (a .s) (now (a .slots)) f _ _ _ _ d))
+    rw (c .locate .ensures) (framed l (a .s) _ f .short-code, (in-table l (a .s) (now (a .slots)) f _ _ _ _ d, in-code l (a .s) (now (a .slots)) f _ _ _ _ d))
 
 returns : tie.Need-returns
 returns c =

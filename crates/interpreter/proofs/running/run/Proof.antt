@@ -2,8 +2,8 @@
 use mathlib.Core.Path.{sym, _∙_}
 use denote.Ref.{now}
 use Rattle.rules.specs.Questions.{method}
-use Rattle.frame.proofs.FrameAnswers.{frame-passed, frame-refused}
-use Rattle.interpreter.proofs.Taken.{told, refused-run, passed-run}
+use Rattle.rules.proofs.Answers.{row-passed, row-refused}
+use Rattle.interpreter.proofs.Taken.{accounted, refused-run, passed-run}
 use borrow.Author.Needs.{needs}
 use Rattle.interpreter.proofs.running.run.Statement.{statement}
 use Rattle.interpreter.proofs.running.run.Tie as tie
@@ -18,7 +18,7 @@ enum-told : tie.Need-enum-told
 enum-told c = search needs
 
 run-framed-requires : tie.Need-run-framed-requires
-run-framed-requires c κs = frame-passed _ (sym (c .before .enum-told .given .1) ∙ c .before .before .before .check-frame .ensures)
+run-framed-requires c κs = row-passed _ (sym (c .before .enum-told .given .1) ∙ c .before .before .before .check-frame .ensures)
 
 same-length : tie.Need-same-length
 same-length c = search needs
@@ -27,7 +27,7 @@ returns : tie.Need-returns
 returns c =
     let a = c .before .before .before .before .before .before .before .before .before .args in
     let l = method (now (a .code)) (now (a .kinds)) (now (a .words)) in
-    told l (a .budget) (a .s) (now (a .slots)) _ (refused-run l (a .budget) (a .s) (now (a .slots)) _ (frame-refused _ _ (sym (c .before .asked .given .1) ∙ c .before .before .before .check-frame .ensures)))
+    accounted l (a .budget) (a .s) (now (a .slots)) _ (refused-run l (a .budget) (a .s) (now (a .slots)) _ (row-refused _ _ (sym (c .before .asked .given .1) ∙ c .before .before .before .check-frame .ensures)))
 
 same-length-2 : tie.Need-same-length-2
 same-length-2 c = search needs
@@ -36,7 +36,7 @@ returns-2 : tie.Need-returns-2
 returns-2 c =
     let a = c .before .before .before .before .before .before .before .before .before .before .before .before .args in
     let l = method (now (a .code)) (now (a .kinds)) (now (a .words)) in
-    told l (a .budget) (a .s) (now (a .slots)) _ (c .before .before .run-framed .ensures ∙ passed-run l (a .budget) (a .s) (now (a .slots)) (frame-passed _ (sym (c .before .before .before .before .enum-told .given .1) ∙ c .before .before .before .before .before .before .check-frame .ensures)))
+    accounted l (a .budget) (a .s) (now (a .slots)) _ (c .before .before .run-framed .ensures ∙ passed-run l (a .budget) (a .s) (now (a .slots)) (row-passed _ (sym (c .before .before .before .before .enum-told .given .1) ∙ c .before .before .before .before .before .before .check-frame .ensures)))
 
 pub run-spec : {M : Type 1} → statement M
 run-spec =

@@ -2,8 +2,7 @@
 use native.Mathlib.Omega.{arith}
 use denote.Ref.{now}
 use Rattle.rules.specs.Questions.{method}
-use Rattle.rules.proofs.Legal.{ordinary-legal}
-use Rattle.interpreter.proofs.Taken.{no-budget, ordinary-last, ends-stopped, ends-other}
+use Rattle.interpreter.proofs.Taken.{no-budget, legal-last, ends-stopped, ends-other}
 use borrow.Author.Needs.{needs}
 use Rattle.interpreter.proofs.running.run_framed.Statement.{statement}
 use Rattle.interpreter.proofs.running.run_framed.Tie as tie
@@ -45,7 +44,7 @@ commit-requires : tie.Need-commit-requires
 commit-requires c κs =
     let a = c .before .before .before .before .before .before .before .before .before .before .before .before .before .before .args in
     let l = method (now (a .code)) (now (a .kinds)) (now (a .words)) in
-    let k = ordinary-legal l _ _ _ (ordinary-last l (a .budget) (a .s) (now (a .slots)) (c .before .before .before .before .before .before .before .before .before .if1 .left) _ (c .before .before .before .before .before .before .before .advance-framed .ensures .0) _ (c .before .before .decision .given .1)) in
+    let k = legal-last l (a .budget) (a .s) (now (a .slots)) (c .before .before .before .before .before .before .before .before .before .if1 .left) _ (c .before .before .before .before .before .before .before .advance-framed .ensures .0) _ (c .before .before .decision .given .1) in
     (k .few, k .within, k .frame-there .room)
 
 moved-requires : tie.Need-moved-requires

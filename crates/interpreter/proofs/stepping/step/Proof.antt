@@ -1,8 +1,7 @@
 -- `step` meets its contract. Assumes nothing.
 use denote.Ref.{now}
 use Rattle.rules.specs.Questions.{method}
-use Rattle.rules.proofs.Legal.{ordinary-legal}
-use Rattle.interpreter.proofs.Steps.{ordinary-there}
+use Rattle.interpreter.proofs.Steps.{legal-there}
 use Rattle.interpreter.proofs.Taken.{step-ordinary, step-other}
 use borrow.Author.Needs.{needs}
 use Rattle.interpreter.proofs.stepping.step.Statement.{statement}
@@ -27,7 +26,7 @@ commit-requires : tie.Need-commit-requires
 commit-requires c κs =
     let a = c .before .before .before .before .before .before .before .before .before .before .before .before .args in
     let l = method (now (a .code)) (now (a .kinds)) (now (a .words)) in
-    let k = ordinary-legal l (a .s) _ _ (ordinary-there l (a .s) (now (a .slots)) _ (c .before .before .before .before .before .before .advance .ensures) _ (c .before .before .decision .given .1)) in
+    let k = legal-there l (a .s) (now (a .slots)) _ (c .before .before .before .before .before .before .advance .ensures) _ (c .before .before .decision .given .1) in
     (k .few, k .within, k .frame-there .room)
 
 moved-requires : tie.Need-moved-requires
