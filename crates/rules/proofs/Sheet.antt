@@ -12,7 +12,7 @@ use Rattle.rules.specs.declared.Mark.the-variants.{LM, CD, KI, AR}
 use Rattle.rules.specs.declared.Reading.{Reading}
 use Rattle.rules.specs.Check.{Check, passed, refused, _else_, _>>=_, _>>_}
 use Rattle.rules.specs.Fetch.{u8, u16, u32}
-use Rattle.rules.specs.Sheet.{bodyLength, bodyAt, recordEnd, knownMark, follows, rightLength, unread, withRecord, poolIndex, poolTag, tagSuits, lastIndex, argumentCount, contentsCheck, recordCheck, endCheck, readFrom, sheetCheck, Pool, withWords, withValue, poolFrom, loadedPool, loadedSlots, acceptedLoad, refusedLoad, memoryCheck, loadOf}
+use Rattle.rules.specs.Sheet.{bodyLength, bodyAt, recordEnd, knownMark, follows, rightLength, unread, withRecord, poolIndex, poolTag, tagSuits, lastIndex, argumentCount, contentsCheck, markedCheck, recordCheck, endCheck, readFrom, sheetCheck, Pool, withWords, withValue, poolFrom, loadedPool, loadedSlots, acceptedLoad, refusedLoad, memoryCheck, loadOf}
 use Rattle.rules.proofs.Check.{last-passed, Holds, asked, after, bound, held, either, bind-same}
 
 -- ---- a record, question by question
@@ -29,30 +29,34 @@ module _ (sheet : List ℕ) (at : ℕ) (p : Reading) where
 
   module _ (head : bodyAt at ≤ length sheet) (there : recordEnd sheet at ≤ length sheet) where
     -- 22
-    pub unknown : knownMark (u16 sheet at) ≡ refused 22 → recordCheck sheet at p ≡ refused 22
+    pub unknown : (k : ℕ) → knownMark (u16 sheet at) ≡ refused k → recordCheck sheet at p ≡ refused k
     unfolding recordCheck _else_ _>>_ _>>=_
-    unknown e = simp (le-leb _ _ head, le-leb _ _ there, e)
+    unknown k e = simp (le-leb _ _ head, le-leb _ _ there, e)
 
-    module _ (m : Mark) (known : knownMark (u16 sheet at) ≡ passed m) where
-      -- 23
-      pub disordered : follows m (p .last) ≡ false → recordCheck sheet at p ≡ refused 23
-      unfolding recordCheck _else_ _>>_ _>>=_
-      disordered h = simp (le-leb _ _ head, le-leb _ _ there, known, h)
+    pub marked : (m : Mark) → knownMark (u16 sheet at) ≡ passed m → recordCheck sheet at p ≡ markedCheck sheet at p m
+    unfolding recordCheck _else_ _>>_ _>>=_
+    marked m e = simp (le-leb _ _ head, le-leb _ _ there, e)
 
-      module _ (ordered : follows m (p .last) ≡ true) where
-        -- 24
-        pub wrong-length : rightLength m (bodyLength sheet at) ≡ false → recordCheck sheet at p ≡ refused 24
-        unfolding recordCheck _else_ _>>_ _>>=_
-        wrong-length h = simp (le-leb _ _ head, le-leb _ _ there, known, ordered, h)
+  module _ (m : Mark) where
+    -- 23
+    pub disordered : follows m (p .last) ≡ false → markedCheck sheet at p m ≡ refused 23
+    unfolding markedCheck _else_ _>>_
+    disordered h = simp h
 
-        module _ (right : rightLength m (bodyLength sheet at) ≡ true) where
-          pub bad-contents : (k : ℕ) → contentsCheck sheet at p m ≡ refused k → recordCheck sheet at p ≡ refused k
-          unfolding recordCheck _else_ _>>_ _>>=_
-          bad-contents k h = simp (le-leb _ _ head, le-leb _ _ there, known, ordered, right, h)
+    module _ (ordered : follows m (p .last) ≡ true) where
+      -- 24
+      pub wrong-length : rightLength m (bodyLength sheet at) ≡ false → markedCheck sheet at p m ≡ refused 24
+      unfolding markedCheck _else_ _>>_
+      wrong-length h = simp (ordered, h)
 
-          pub good-contents : contentsCheck sheet at p m ≡ passed tt → recordCheck sheet at p ≡ passed (withRecord sheet at m p)
-          unfolding recordCheck _else_ _>>_ _>>=_
-          good-contents h = simp (le-leb _ _ head, le-leb _ _ there, known, ordered, right, h)
+      module _ (right : rightLength m (bodyLength sheet at) ≡ true) where
+        pub bad-contents : (k : ℕ) → contentsCheck sheet at p m ≡ refused k → markedCheck sheet at p m ≡ refused k
+        unfolding markedCheck _else_ _>>_
+        bad-contents k h = simp (ordered, right, h)
+
+        pub good-contents : contentsCheck sheet at p m ≡ passed tt → markedCheck sheet at p m ≡ passed (withRecord sheet at m p)
+        unfolding markedCheck _else_ _>>_
+        good-contents h = simp (ordered, right, h)
 
   -- 25
   pub tag-unfit : tagSuits (poolTag sheet at) (bodyLength sheet at) ≡ false → contentsCheck sheet at p KI ≡ refused 25
@@ -228,7 +232,7 @@ module _ (sheet : List ℕ) where
     }
 
   record-within : (at : ℕ) (p : Reading) → Within sheet p → Holds W (recordCheck sheet at p)
-  unfolding recordCheck Holds W
+  unfolding recordCheck markedCheck Holds W
   record-within at p h = asked W _ 21 _ (λ _. asked W _ 21 _ (λ there. bound W (knownMark (u16 sheet at)) _ (λ m e.
       asked W _ 23 _ (λ f. asked W _ 24 _ (λ r. after W (contentsCheck sheet at p m) _ (λ c. with-within at p h (leb-true (recordEnd sheet at) (length sheet) there) m f r c))))))
 
@@ -295,7 +299,7 @@ module _ (sheet : List ℕ) where
   }
 
   record-placed : (at : ℕ) (p : Reading) → Placed at p → Holds (After at) (recordCheck sheet at p)
-  unfolding recordCheck Holds
+  unfolding recordCheck markedCheck Holds
   record-placed at p h = asked (After at) _ 21 _ (λ _. asked (After at) _ 21 _ (λ _. bound (After at) (knownMark (u16 sheet at)) _ (λ m e.
       asked (After at) _ 23 _ (λ f. asked (After at) _ 24 _ (λ r. after (After at) (contentsCheck sheet at p m) _ (λ _. with-placed at p h m f r))))))
 

@@ -110,16 +110,21 @@ contentsCheck sheet at p KI = do
   lastIndex sheet at ≤ⁿ 65535 else 25
 contentsCheck sheet at p AR = argumentCount sheet at ≤ⁿ p .«max_locals» else 27
 
--- four bytes and the body present? 21. Mark known? 22. Order as above? 23. Length right? 24. Then 25 or 27
+-- order as above? 23. Length right? 24. Then 25 or 27
+unfoldable pub markedCheck : List ℕ → ℕ → Reading → Mark → Check Reading
+markedCheck sheet at p m = do
+  follows m (p .last) else 23
+  rightLength m (bodyLength sheet at) else 24
+  contentsCheck sheet at p m
+  passed (withRecord sheet at m p)
+
+-- four bytes and the body present? 21. Mark known? 22. Then 23 to 27
 unfoldable pub recordCheck : List ℕ → ℕ → Reading → Check Reading
 recordCheck sheet at p = do
   bodyAt at ≤ⁿ length sheet else 21
   recordEnd sheet at ≤ⁿ length sheet else 21
   m ← knownMark (u16 sheet at)
-  follows m (p .last) else 23
-  rightLength m (bodyLength sheet at) else 24
-  contentsCheck sheet at p m
-  passed (withRecord sheet at m p)
+  markedCheck sheet at p m
 
 -- at the end of the bytes: was AR seen? 23
 abbrev pub endCheck : Reading → Check Reading

@@ -1,17 +1,16 @@
 -- What the answers to a mark, to a record and to the memory say of the questions. Assumes nothing.
 use Prim.Native.Nat.{ℕ, _+_, _≤_}
 use mathlib.Core.Path.{_≡_, refl}
-use mathlib.Core.Bool.{Bool, true, false, _||_, cond}
+use mathlib.Core.Bool.{Bool, true, false, _||_}
 use mathlib.Core.List.{List}
 use native.Mathlib.Omega.{arith}
 use lib.Dec.{eqb, leb, ltb}
 use lib.ListN.{length}
 use borrow.Author.Tests.{leb-true}
 use Rattle.rules.specs.declared.Mark.{Mark}
-use Rattle.rules.specs.declared.Mark.the-variants.{LM, CD, KI, AR}
 use Rattle.rules.specs.declared.Reading.{Reading}
 use Rattle.rules.specs.Check.{Check, passed, refused, _else_, _>>_, isPassed}
-use Rattle.rules.specs.Sheet.{knownMark, memoryCheck}
+use Rattle.rules.specs.Sheet.{memoryCheck}
 use Rattle.rules.proofs.Check.{first-passed, is-passed}
 use Rattle.sheet.specs.declared.marks.Known.the-variants as Known
 use Rattle.sheet.specs.declared.records.Record.the-variants as Record
@@ -21,18 +20,9 @@ pub mark-known : (x : Check Mark) (m : Mark) → Known.Mark m ≡ markAnswer x �
 mark-known (passed k) m e = cc
 mark-known (refused n) m e = let z : _≡_ {A = ℕ} 0 1 = cc in absurd (omega arith)
 
-pub mark-unknown : (n : ℕ) → Known.Nothing ≡ markAnswer (knownMark n) → knownMark n ≡ refused 22
-mark-unknown n e = go (eqb n 0x4C4D) (eqb n 0x4344) (eqb n 0x4B49) (eqb n 0x4152) e
-  where
-    of : Bool → Bool → Bool → Bool → Check Mark
-    of a b c d = cond a (passed LM) (cond b (passed CD) (cond c (passed KI) (cond d (passed AR) (refused 22))))
-
-    go : (a b c d : Bool) → Known.Nothing ≡ markAnswer (of a b c d) → of a b c d ≡ refused 22
-    go true b c d e = let z : _≡_ {A = ℕ} 0 1 = cc in absurd (omega arith)
-    go false true c d e = let z : _≡_ {A = ℕ} 0 1 = cc in absurd (omega arith)
-    go false false true d e = let z : _≡_ {A = ℕ} 0 1 = cc in absurd (omega arith)
-    go false false false true e = let z : _≡_ {A = ℕ} 0 1 = cc in absurd (omega arith)
-    go false false false false e = refl
+pub mark-unknown : (x : Check Mark) (k : ℕ) → Known.Refused k ≡ markAnswer x → x ≡ refused k
+mark-unknown (passed m) k e = let z : _≡_ {A = ℕ} 0 1 = cc in absurd (omega arith)
+mark-unknown (refused n) k e = cc
 
 pub record-read : (x : Check Reading) (p : Reading) → Record.Read p ≡ recordAnswer x → x ≡ passed p
 record-read (passed q) p e = cc

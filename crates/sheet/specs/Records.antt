@@ -9,7 +9,7 @@ use Rattle.sheet.specs.declared.records.Record.the-variants as Record
 
 abbrev pub markAnswer : Check Mark → Known
 markAnswer (passed m) = Known.Mark m
-markAnswer (refused n) = Known.Nothing
+markAnswer (refused n) = Known.Refused n
 
 abbrev pub recordAnswer : Check Reading → Record
 recordAnswer (passed p) = Record.Read p

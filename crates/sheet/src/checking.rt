@@ -1,4 +1,5 @@
 // The whole sheet, record by record, and the memory that its method asks for.
+use crate::marks::AFTER_AR;
 use crate::records::Record;
 use crate::records::body_length;
 use crate::records::check_record;
@@ -40,7 +41,7 @@ pub fn check_sheet(sheet: &[u8]) -> Record
         at = at + 4 + body_length(sheet, at) as usize;
         p = q;
     }
-    if p.last == 4 {
+    if p.last == AFTER_AR {
         return Record::Read(p);
     }
     Record::Refused(23)

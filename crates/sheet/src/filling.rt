@@ -1,4 +1,5 @@
 // The lent memory of an accepted sheet: the constant pool over its whole length, and the words of the frame.
+use crate::marks::WIDE_CONSTANT;
 use crate::records::body_length;
 use operands::read_code_u8;
 use operands::read_code_u16;
@@ -71,7 +72,7 @@ fn enter_words(sheet: &[u8], at: usize, words: &mut [u32])
     let body = at + 4;
     let index = read_code_u16(sheet, body) as usize;
     let first = read_code_u32(sheet, body + 3);
-    if body_length(sheet, at) == 11 {
+    if body_length(sheet, at) == WIDE_CONSTANT {
         let second = read_code_u32(sheet, body + 7);
         put_word(words, index, second);
         put_word(words, index + 1, first);

@@ -8,4 +8,5 @@ mod records;
 pub use checking::check_sheet;
 pub use loading::code_of;
 pub use loading::load;
+pub use loading::loaded_state;
 pub use records::Record;

@@ -5,19 +5,16 @@ use crate::filling::fill_pool;
 use crate::filling::fill_slots;
 use crate::records::Record;
 use rules::Load;
+use rules::Loaded;
 use rules::Reading;
 use rules::State;
 ghost use mathlib.Core.Path.{_≡_};
-ghost use mathlib.Core.Bool.{cond};
-ghost use mathlib.Core.List.{[]};
-ghost use Prim.Native.Nat.{_+_};
-ghost use lib.ListN.{length, take, drop};
-ghost use Rattle.rules.specs.Check.{passed, _≤ⁿ_};
-ghost use Rattle.rules.specs.Sheet.{sheetCheck, loadedState, loadOf, codeOf};
-ghost use Rattle.sheet.specs.Filled.{loaded};
+ghost use Rattle.rules.specs.Check.{passed};
+ghost use Rattle.rules.specs.Sheet.{sheetCheck, loadedState, acceptedLoad, refusedLoad, loadOf, codeOf};
+ghost use Rattle.sheet.specs.Filled.{afterLoad};
 
-// The state of a method that is loaded.
-fn loaded_state(max_stack: u16, max_locals: u16) -> State
+// The state of a method that is loaded. Every first state is made here.
+pub fn loaded_state(max_stack: u16, max_locals: u16) -> State
     ensures { λ r. ⌜ r ≡ loadedState «max_stack» «max_locals» ⌝ }
 {
     State {
@@ -29,44 +26,66 @@ fn loaded_state(max_stack: u16, max_locals: u16) -> State
     }
 }
 
-// The memory asked, and then filled.
-fn load_read(
-    sheet: &[u8],
-    slots: &mut [u32],
-    kinds: &mut [u8],
-    words: &mut [u32],
-    p: Reading,
-) -> Load
-    requires { ⌜ sheetCheck (now sheet) ≡ passed p ⌝ }
-    ensures { λ r. ⌜ loaded r (now (slots .exit)) (now (kinds .exit)) (now (words .exit)) ≡ loadOf (now (sheet .entry)) (now (slots .entry)) (now (kinds .entry)) (now (words .entry)) ⌝ }
+// What a refused load gives: its number, a state of zeros and the empty part at the sheet's start.
+fn refused_load(number: u32) -> Loaded
+    ensures { λ r. ⌜ r ≡ refusedLoad number ⌝ }
 {
-    if !is_enough(p, slots, kinds, words) {
-        return Load::Refused(26);
+    Loaded {
+        answer: Load::Refused(number),
+        state: loaded_state(0, 0),
+        code: 0,
+        code_length: 0,
     }
-    fill_pool(sheet, p.code + p.code_length, p.arguments - 4, kinds, words);
-    fill_slots(sheet, p, slots);
-    Load::Accepted {
+}
+
+// What an accepted load gives.
+fn accepted_load(p: Reading) -> Loaded
+    ensures { λ r. ⌜ r ≡ acceptedLoad p ⌝ }
+{
+    Loaded {
+        answer: Load::Accepted,
         state: loaded_state(p.max_stack, p.max_locals),
         code: p.code,
         code_length: p.code_length,
     }
 }
 
+// The memory checked, and then filled.
+fn load_read(
+    sheet: &[u8],
+    slots: &mut [u32],
+    kinds: &mut [u8],
+    words: &mut [u32],
+    p: Reading,
+) -> Loaded
+    requires { ⌜ sheetCheck (now sheet) ≡ passed p ⌝ }
+    ensures { λ r. ⌜ afterLoad r (now (slots .exit)) (now (kinds .exit)) (now (words .exit)) ≡ loadOf (now (sheet .entry)) (now (slots .entry)) (now (kinds .entry)) (now (words .entry)) ⌝ }
+{
+    if !is_enough(p, slots, kinds, words) {
+        return refused_load(26);
+    }
+    fill_pool(sheet, p.code + p.code_length, p.arguments - 4, kinds, words);
+    fill_slots(sheet, p, slots);
+    accepted_load(p)
+}
+
 // A load from any bytes into any memory.
-pub fn load(sheet: &[u8], slots: &mut [u32], kinds: &mut [u8], words: &mut [u32]) -> Load
-    ensures { λ r. ⌜ loaded r (now (slots .exit)) (now (kinds .exit)) (now (words .exit)) ≡ loadOf (now (sheet .entry)) (now (slots .entry)) (now (kinds .entry)) (now (words .entry)) ⌝ }
+pub fn load(sheet: &[u8], slots: &mut [u32], kinds: &mut [u8], words: &mut [u32]) -> Loaded
+    ensures { λ r. ⌜ afterLoad r (now (slots .exit)) (now (kinds .exit)) (now (words .exit)) ≡ loadOf (now (sheet .entry)) (now (slots .entry)) (now (kinds .entry)) (now (words .entry)) ⌝ }
 {
     let checked = check_sheet(sheet);
     match checked {
-        Record::Refused(n) => Load::Refused(n),
+        Record::Refused(n) => refused_load(n),
         Record::Read(p) => load_read(sheet, slots, kinds, words, p),
     }
 }
 
-// A part of a sheet, or else the empty part at its start.
-fn part(sheet: &[u8], start: usize, count: usize) -> &[u8]
-    ensures { λ r. ⌜ now r ≡ cond (start + count ≤ⁿ length (now (sheet .entry))) (take count (drop start (now (sheet .entry)))) [] ⌝ }
+// The code that a load found, as the very part of the sheet that holds it; of a load of another sheet that points past this one, the empty part at its start.
+pub fn code_of(sheet: &[u8], loaded: Loaded) -> &[u8]
+    ensures { λ r. ⌜ now r ≡ codeOf (now (sheet .entry)) loaded ⌝ }
 {
+    let start = loaded.code;
+    let count = loaded.code_length;
     if sheet.len() < start {
         return &sheet[..0];
     }
@@ -75,18 +94,4 @@ fn part(sheet: &[u8], start: usize, count: usize) -> &[u8]
     }
     let end = start + count;
     &sheet[start..end]
-}
-
-// The code that a load found, as the very part of the sheet that holds it; of a refused load the empty part at the sheet's start.
-pub fn code_of(sheet: &[u8], load: Load) -> &[u8]
-    ensures { λ r. ⌜ now r ≡ codeOf (now (sheet .entry)) load ⌝ }
-{
-    match load {
-        Load::Refused(_) => &sheet[..0],
-        Load::Accepted {
-            state: _,
-            code,
-            code_length,
-        } => part(sheet, code, code_length),
-    }
 }

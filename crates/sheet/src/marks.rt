@@ -1,32 +1,78 @@
 // The marks of a sheet's records: which they are, which may follow which, and the lengths that they allow.
 use rules::Mark;
 ghost use mathlib.Core.Path.{_≡_};
-ghost use Rattle.rules.specs.Sheet.{tagSuits, knownMark, follows, rightLength};
+ghost use Rattle.rules.specs.Sheet.{tagSuits, knownMark, markNumber, follows, rightLength};
 ghost use Rattle.sheet.specs.Records.{markAnswer};
 
-// A mark, or none that is known.
+// The marks in ASCII.
+const LM: u16 = 0x4C4D;
+
+const CD: u16 = 0x4344;
+
+const KI: u16 = 0x4B49;
+
+const AR: u16 = 0x4152;
+
+// The last record's mark, by its number.
+const NO_RECORD: u32 = 0;
+
+const AFTER_LM: u32 = 1;
+
+const AFTER_CD: u32 = 2;
+
+const AFTER_KI: u32 = 3;
+
+pub(crate) const AFTER_AR: u32 = 4;
+
+// The body of a KI record with a value of one word, and of two.
+const NARROW_CONSTANT: u16 = 7;
+
+pub(crate) const WIDE_CONSTANT: u16 = 11;
+
+// The tags of JVMS 4.4.
+const CONSTANT_INTEGER: u8 = 3;
+
+const CONSTANT_FLOAT: u8 = 4;
+
+const CONSTANT_LONG: u8 = 5;
+
+const CONSTANT_DOUBLE: u8 = 6;
+
+// A mark, or the number of the refusal of one that is not known.
 pub(crate) enum Known {
     Mark(Mark),
-    Nothing,
+    Refused(u32),
 }
 
-// The mark of two bytes: LM, CD, KI or AR in ASCII.
+// The mark of two bytes.
 pub(crate) fn known_mark(bytes: u16) -> Known
     ensures { λ r. ⌜ r ≡ markAnswer (knownMark bytes) ⌝ }
 {
-    if bytes == 0x4C4D {
+    if bytes == LM {
         return Known::Mark(Mark::LM);
     }
-    if bytes == 0x4344 {
+    if bytes == CD {
         return Known::Mark(Mark::CD);
     }
-    if bytes == 0x4B49 {
+    if bytes == KI {
         return Known::Mark(Mark::KI);
     }
-    if bytes == 0x4152 {
+    if bytes == AR {
         return Known::Mark(Mark::AR);
     }
-    Known::Nothing
+    Known::Refused(22)
+}
+
+// The number by which a mark is known afterwards.
+pub(crate) fn mark_number(mark: Mark) -> u32
+    ensures { λ r. ⌜ r ≡ markNumber mark ⌝ }
+{
+    match mark {
+        Mark::LM => AFTER_LM,
+        Mark::CD => AFTER_CD,
+        Mark::KI => AFTER_KI,
+        Mark::AR => AFTER_AR,
+    }
 }
 
 // Whether a record may come after the last one.
@@ -34,10 +80,10 @@ pub(crate) fn may_follow(mark: Mark, last: u32) -> bool
     ensures { λ r. ⌜ r ≡ follows mark last ⌝ }
 {
     match mark {
-        Mark::LM => last == 0,
-        Mark::CD => last == 1,
-        Mark::KI => last == 2 || last == 3,
-        Mark::AR => last == 2 || last == 3,
+        Mark::LM => last == NO_RECORD,
+        Mark::CD => last == AFTER_LM,
+        Mark::KI => last == AFTER_CD || last == AFTER_KI,
+        Mark::AR => last == AFTER_CD || last == AFTER_KI,
     }
 }
 
@@ -48,17 +94,17 @@ pub(crate) fn right_length(mark: Mark, size: u16) -> bool
     match mark {
         Mark::LM => size == 4,
         Mark::CD => 1 <= size,
-        Mark::KI => size == 7 || size == 11,
+        Mark::KI => size == NARROW_CONSTANT || size == WIDE_CONSTANT,
         Mark::AR => size % 4 == 0,
     }
 }
 
-// Whether a tag suits the body's length: 3 int and 4 float of 7 bytes, else 5 long and 6 double.
+// Whether a tag suits the body's length.
 pub(crate) fn tag_suits(tag: u8, size: u16) -> bool
     ensures { λ r. ⌜ r ≡ tagSuits tag size ⌝ }
 {
-    if size == 7 {
-        return tag == 3 || tag == 4;
+    if size == NARROW_CONSTANT {
+        return tag == CONSTANT_INTEGER || tag == CONSTANT_FLOAT;
     }
-    tag == 5 || tag == 6
+    tag == CONSTANT_LONG || tag == CONSTANT_DOUBLE
 }

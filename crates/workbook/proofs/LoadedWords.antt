@@ -11,7 +11,7 @@ use Rattle.rules.specs.declared.Load.the-variants as Load
 use Rattle.rules.specs.Check.{Check, passed, refused}
 use Rattle.rules.specs.Fetch.{u8}
 use Rattle.rules.specs.Sheet.{sheetCheck, Loaded, loadOf}
-use Rattle.rules.proofs.Loaded.{accepted-where}
+use Rattle.rules.proofs.AcceptedLoad.{accepted-where}
 use Rattle.sheet.specs.declared.records.Record.the-variants as Record
 use Rattle.sheet.specs.Records.{recordAnswer}
 use Rattle.workbook.specs.StateWords.{withState, lengthsCheck}

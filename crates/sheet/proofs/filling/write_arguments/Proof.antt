@@ -6,7 +6,7 @@ use native.Mathlib.Omega.{arith}
 use lib.ListN.{length, drop, length-set}
 use denote.Ref.{now}
 use Rattle.rules.specs.Sheet.{argumentsFrom}
-use Rattle.rules.proofs.Loaded.{length-arguments}
+use Rattle.rules.proofs.AcceptedLoad.{length-arguments}
 use Rattle.sheet.proofs.Fronts.{front-set, one-more-argument}
 use borrow.Author.Needs.{needs}
 use Rattle.sheet.proofs.filling.write_arguments.Statement.{statement}

@@ -1,27 +1,62 @@
 -- `code_of` meets its contract. Assumes nothing.
+use Prim.Native.Nat.{_+_, _-_}
+use mathlib.Core.Path.{_≡_}
+use native.Mathlib.Omega.{arith}
+use lib.ListN.{length}
+use denote.Ref.{now}
+use borrow.Author.Tests.{le-leb, lt-leb}
 use borrow.Author.Needs.{needs}
 use Rattle.sheet.proofs.loading.code_of.Statement.{statement}
 use Rattle.sheet.proofs.loading.code_of.Tie as tie
 
-enum-told : tie.Need-enum-told
-enum-told c = search needs
-
 slice-aggregate-result : tie.Need-slice-aggregate-result
 slice-aggregate-result c = search needs
 
-enum-known-load : tie.Need-enum-known-load
-enum-known-load c = search needs
-
-part-requires : tie.Need-part-requires
-part-requires c κs = search needs
-
 returns : tie.Need-returns
-returns c = search needs
+returns c =
+    let a = c .before .before .args in
+    simp (lt-leb (a .loaded .code + a .loaded .«code_length») (length (now (a .sheet))) (omega arith))
+
+sub-if2 : tie.Need-sub-if2
+sub-if2 c = search needs
+
+slice-aggregate-result-2 : tie.Need-slice-aggregate-result-2
+slice-aggregate-result-2 c = search needs
 
 returns-2 : tie.Need-returns-2
-returns-2 c = simp (c .before .before .load .given .1, ← c .part .ensures)
+returns-2 c =
+    let a = c .before .before .before .args in
+    simp (lt-leb (a .loaded .code + a .loaded .«code_length») (length (now (a .sheet))) (omega arith))
+
+add-end : tie.Need-add-end
+add-end c = search needs
+
+sub-result : tie.Need-sub-result
+sub-result c = search needs
+
+part-result-start : tie.Need-part-result-start
+part-result-start c = search needs
+
+part-result-end : tie.Need-part-result-end
+part-result-end c = search needs
+
+returns-3 : tie.Need-returns-3
+returns-3 c =
+    let a = c .before .before .before .args in
+    let n : a .loaded .code + a .loaded .«code_length» - a .loaded .code ≡ a .loaded .«code_length» = omega arith in
+    simp (le-leb (a .loaded .code + a .loaded .«code_length») (length (now (a .sheet))) (omega arith), n)
 
 pub code-of-spec : {M : Type 1} → statement M
 code-of-spec =
     tie.close
-    (tie.spec enum-told slice-aggregate-result enum-known-load part-requires returns returns-2)
+    (tie.spec
+    slice-aggregate-result
+    returns
+    sub-if2
+    slice-aggregate-result-2
+    returns-2
+    add-end
+    sub-result
+    part-result-start
+    part-result-end
+    returns-3)

@@ -13,6 +13,9 @@ check-sheet-requires c κs = search needs
 enum-known-checked : tie.Need-enum-known-checked
 enum-known-checked c = search needs
 
+refused-load-requires : tie.Need-refused-load-requires
+refused-load-requires c κs = search needs
+
 enum-known-checked-2 : tie.Need-enum-known-checked-2
 enum-known-checked-2 c = search needs
 
@@ -21,8 +24,8 @@ load-read-requires c κs = record-read _ _ (sym (c .before .before .before .befo
 
 returns : tie.Need-returns
 returns c =
-    let a = c .before .before .before .before .before .before .before .before .args in
-    load-refused (now (a .sheet)) (now (a .slots)) (now (a .kinds)) (now (a .words)) _ (record-refused _ _ (sym (c .before .checked .given .1) ∙ c .before .before .before .check-sheet .ensures))
+    let a = c .before .before .before .before .before .before .before .before .before .args in
+    rw (c .refused-load .ensures) (load-refused (now (a .sheet)) (now (a .slots)) (now (a .kinds)) (now (a .words)) _ (record-refused _ _ (sym (c .before .before .checked .given .1) ∙ c .before .before .before .before .check-sheet .ensures)))
 
 same-length : tie.Need-same-length
 same-length c = search needs
@@ -42,6 +45,7 @@ load-spec =
     (tie.spec
     check-sheet-requires
     enum-known-checked
+    refused-load-requires
     enum-known-checked-2
     load-read-requires
     returns

@@ -14,6 +14,9 @@ use Rattle.sheet.proofs.loading.load_read.Tie as tie
 is-enough-requires : tie.Need-is-enough-requires
 is-enough-requires c κs = search needs
 
+refused-load-requires : tie.Need-refused-load-requires
+refused-load-requires c κs = search needs
+
 same-length : tie.Need-same-length
 same-length c = search needs
 
@@ -25,16 +28,15 @@ same-length-3 c = search needs
 
 returns : tie.Need-returns
 returns c =
-    let a = c .before .before .before .before .before .before .before .before .before .args in
-    load-short (now (a .sheet)) (now (a .slots)) (now (a .kinds)) (now (a .words)) (a .p) (c .before .before .before .before .before .before .before .before .before .pre) 26
-    (not-enough (a .p) (now (a .slots)) (now (a .kinds)) (now (a .words)) (sym (c .before .is-enough .ensures) ∙ not-true _ (c .if1 .taken)))
+    let a = c .before .before .before .before .before .before .before .before .before .before .args in
+    rw (c .refused-load .ensures) (load-short (now (a .sheet)) (now (a .slots)) (now (a .kinds)) (now (a .words)) (a .p) (c .before .before .before .before .before .before .before .before .before .before .pre) 26
+    (not-enough (a .p) (now (a .slots)) (now (a .kinds)) (now (a .words)) (sym (c .before .before .is-enough .ensures) ∙ not-true _ (c .before .if1 .taken))))
 
 add-fill-pool : tie.Need-add-fill-pool
 add-fill-pool c =
     let a = c .before .before .before .before .before .before .before .before .before .before .args in
     let w = sheet-within (now (a .sheet)) (a .p) (c .before .before .before .before .before .before .before .before .before .before .pre) in
     let last = w .1 in
-    let h : 4 ≤ a .p .last = omega arith in
     let k : 2 ≤ a .p .last = omega arith in
     omega (arith, w .0 .code-there k)
 
@@ -44,7 +46,6 @@ sub-fill-pool c =
     let w = sheet-within (now (a .sheet)) (a .p) (c .before .before .before .before .before .before .before .before .before .before .before .pre) in
     let last = w .1 in
     let h : 4 ≤ a .p .last = omega arith in
-    let k : 2 ≤ a .p .last = omega arith in
     omega (arith, w .0 .after-head h)
 
 fill-pool-requires : tie.Need-fill-pool-requires
@@ -53,7 +54,6 @@ fill-pool-requires c κs =
     let w = sheet-within (now (a .sheet)) (a .p) (c .before .before .before .before .before .before .before .before .before .before .before .before .before .pre) in
     let last = w .1 in
     let h : 4 ≤ a .p .last = omega arith in
-    let k : 2 ≤ a .p .last = omega arith in
     omega (arith, w .0 .arguments-there h)
 
 fill-slots-requires : tie.Need-fill-slots-requires
@@ -62,12 +62,11 @@ fill-slots-requires c κs =
     let w = sheet-within (now (a .sheet)) (a .p) (c .before .before .before .before .before .before .before .before .before .before .before .before .before .before .before .before .before .before .before .pre) in
     let last = w .1 in
     let h : 4 ≤ a .p .last = omega arith in
-    let k : 2 ≤ a .p .last = omega arith in
     let fits = slots-reach (a .p) (now (a .slots)) (now (a .kinds)) (now (a .words)) (enough (a .p) (now (a .slots)) (now (a .kinds)) (now (a .words)) (sym (c .before .before .before .before .before .before .before .before .before .before .before .is-enough .ensures) ∙ not-false _ (c .before .before .before .before .before .before .before .before .before .before .if1 .left))) in
     (w .0 .arguments-there h, w .0 .few-arguments h, fits)
 
-loaded-state-requires : tie.Need-loaded-state-requires
-loaded-state-requires c κs = search needs
+accepted-load-requires : tie.Need-accepted-load-requires
+accepted-load-requires c κs = search needs
 
 same-length-4 : tie.Need-same-length-4
 same-length-4 c = search needs
@@ -82,7 +81,7 @@ returns-2 : tie.Need-returns-2
 returns-2 c =
     let a = c .before .before .before .before .before .before .before .before .before .before .before .before .before .before .before .before .before .before .before .before .before .before .before .args in
     let fits = enough (a .p) (now (a .slots)) (now (a .kinds)) (now (a .words)) (sym (c .before .before .before .before .before .before .before .before .before .before .before .before .before .before .before .is-enough .ensures) ∙ not-false _ (c .before .before .before .before .before .before .before .before .before .before .before .before .before .before .if1 .left)) in
-    rw (c .loaded-state .ensures, c .before .before .before .fill-slots .ensures)
+    rw (c .accepted-load .ensures, c .before .before .before .fill-slots .ensures)
     (load-accepted (now (a .sheet)) (now (a .slots)) (now (a .kinds)) (now (a .words)) (a .p) (c .before .before .before .before .before .before .before .before .before .before .before .before .before .before .before .before .before .before .before .before .before .before .before .pre) fits (pool _ _) (c .before .before .before .before .before .before .before .before .before .fill-pool .ensures))
 
 pub load-read-spec : {M : Type 1} → statement M
@@ -90,6 +89,7 @@ load-read-spec =
     tie.close
     (tie.spec
     is-enough-requires
+    refused-load-requires
     same-length
     same-length-2
     same-length-3
@@ -98,7 +98,7 @@ load-read-spec =
     sub-fill-pool
     fill-pool-requires
     fill-slots-requires
-    loaded-state-requires
+    accepted-load-requires
     same-length-4
     same-length-5
     same-length-6

@@ -2,8 +2,8 @@
 use mathlib.Core.Path.{sym, ap, _∙_}
 use denote.Ref.{now}
 use borrow.Author.Tests.{not-true, not-false}
+use Rattle.rules.specs.Answers.{checked}
 use Rattle.rules.proofs.Sheet.{tag-unfit, index-used, index-past, constant-read}
-use Rattle.sheet.specs.Records.{recordAnswer}
 use borrow.Author.Needs.{needs}
 use Rattle.sheet.proofs.records.check_constant.Statement.{statement}
 use Rattle.sheet.proofs.records.check_constant.Tie as tie
@@ -26,9 +26,8 @@ tag-suits-requires c κs = search needs
 returns : tie.Need-returns
 returns c =
     let a = c .before .before .before .before .before .args in
-    let sheet = now (a .sheet) in
     let suits = rw (c .before .before .before .read-code-u8 .ensures, c .before .before .body-length .ensures) at (sym (c .before .tag-suits .ensures) ∙ not-true _ (c .if1 .taken)) in
-    sym (ap recordAnswer (tag-unfit sheet (a .at) (a .p) suits))
+    sym (ap checked (tag-unfit (now (a .sheet)) (a .at) (a .p) suits))
 
 read-code-u16-requires : tie.Need-read-code-u16-requires
 read-code-u16-requires c κs = search needs
@@ -39,10 +38,9 @@ cast-index c = search needs
 returns-2 : tie.Need-returns-2
 returns-2 c =
     let a = c .before .before .before .before .before .before .before .before .args in
-    let sheet = now (a .sheet) in
     let suits = rw (c .before .before .before .before .before .before .read-code-u8 .ensures, c .before .before .before .before .before .body-length .ensures) at (sym (c .before .before .before .before .tag-suits .ensures) ∙ not-false _ (c .before .before .before .if1 .left)) in
     let used = rw (c .before .before .read-code-u16 .ensures) at (c .if2 .taken) in
-    sym (ap recordAnswer (index-used sheet (a .at) (a .p) suits used))
+    sym (ap checked (index-used (now (a .sheet)) (a .at) (a .p) suits used))
 
 last-index-requires : tie.Need-last-index-requires
 last-index-requires c κs = search needs
@@ -50,23 +48,18 @@ last-index-requires c κs = search needs
 returns-3 : tie.Need-returns-3
 returns-3 c =
     let a = c .before .before .before .before .before .before .before .before .before .before .args in
-    let sheet = now (a .sheet) in
     let suits = rw (c .before .before .before .before .before .before .before .before .read-code-u8 .ensures, c .before .before .before .before .before .before .before .body-length .ensures) at (sym (c .before .before .before .before .before .before .tag-suits .ensures) ∙ not-false _ (c .before .before .before .before .before .if1 .left)) in
     let above = rw (c .before .before .before .before .read-code-u16 .ensures) at (c .before .before .if2 .left) in
     let past = rw (c .before .last-index .ensures) at (c .if3 .taken) in
-    sym (ap recordAnswer (index-past sheet (a .at) (a .p) suits above past))
-
-with-constant-requires : tie.Need-with-constant-requires
-with-constant-requires c κs = search needs
+    sym (ap checked (index-past (now (a .sheet)) (a .at) (a .p) suits above past))
 
 returns-4 : tie.Need-returns-4
 returns-4 c =
-    let a = c .before .before .before .before .before .before .before .before .before .before .before .args in
-    let sheet = now (a .sheet) in
-    let suits = rw (c .before .before .before .before .before .before .before .before .before .read-code-u8 .ensures, c .before .before .before .before .before .before .before .before .body-length .ensures) at (sym (c .before .before .before .before .before .before .before .tag-suits .ensures) ∙ not-false _ (c .before .before .before .before .before .before .if1 .left)) in
-    let above = rw (c .before .before .before .before .before .read-code-u16 .ensures) at (c .before .before .before .if2 .left) in
-    let there = rw (c .before .before .last-index .ensures) at (c .before .if3 .left) in
-    rw (c .with-constant .ensures, c .before .before .last-index .ensures) (sym (ap recordAnswer (constant-read sheet (a .at) (a .p) suits above there)))
+    let a = c .before .before .before .before .before .before .before .before .before .before .args in
+    let suits = rw (c .before .before .before .before .before .before .before .before .read-code-u8 .ensures, c .before .before .before .before .before .before .before .body-length .ensures) at (sym (c .before .before .before .before .before .before .tag-suits .ensures) ∙ not-false _ (c .before .before .before .before .before .if1 .left)) in
+    let above = rw (c .before .before .before .before .read-code-u16 .ensures) at (c .before .before .if2 .left) in
+    let there = rw (c .before .last-index .ensures) at (c .if3 .left) in
+    sym (ap checked (constant-read (now (a .sheet)) (a .at) (a .p) suits above there))
 
 pub check-constant-spec : {M : Type 1} → statement M
 check-constant-spec =
@@ -83,5 +76,4 @@ check-constant-spec =
     returns-2
     last-index-requires
     returns-3
-    with-constant-requires
     returns-4)
