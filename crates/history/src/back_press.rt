@@ -1,5 +1,5 @@
 // Back: the last step taken back.
-use crate::forward_press::Press;
+use crate::forward_press::PressResult;
 use crate::undo_log::entries;
 use crate::undo_log::is_sound;
 use crate::undo_log::restore;
@@ -48,18 +48,18 @@ pub fn back(
     slots: &mut [u32],
     log: &[u32],
     s: State,
-) -> Press
+) -> PressResult
     ensures { λ r. ⌜ pressed r (now (slots .exit)) (now (log .entry)) ≡ backOf (method (now (code .entry)) (now (kinds .entry)) (now (words .entry))) s (now (slots .entry)) (now (log .entry)) ⌝ }
 {
     let asked = check_back(code, kinds, words, slots, log, s);
     match asked {
-        Checked::Refused(n) => Press {
+        Checked::Refused(n) => PressResult {
             state: s,
             answer: Pressed::Refused(n),
         },
         Checked::Passed => {
             let state = restore(slots, log, s);
-            Press {
+            PressResult {
                 state,
                 answer: Pressed::Granted,
             }

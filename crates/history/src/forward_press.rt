@@ -11,23 +11,24 @@ use rules::Update;
 ghost use mathlib.Core.Path.{_≡_};
 ghost use Prim.Native.Nat.{_+_, _≤_};
 ghost use lib.ListN.{length};
-ghost use Rattle.rules.specs.Questions.{method};
+ghost use Rattle.rules.specs.Step.{machine};
+ghost use Rattle.rules.specs.Questions.{frameSize};
 ghost use Rattle.rules.specs.History.{logCheck, grantedBy, forwardOf};
 ghost use Rattle.history.specs.Left.{pressed};
 
 // The state after a press, and its answer.
-pub struct Press {
+pub struct PressResult {
     pub state: State,
     pub answer: Pressed,
 }
 
 // Question 11; then the undo record is written, and the step committed.
-fn grant(slots: &mut [u32], log: &mut [u32], s: State, u: Update) -> Press
-    requires { ⌜ (u .many ≤ 6) × (u .first + u .many ≤ s .«max_locals» + s .«max_stack») × (s .«max_locals» + s .«max_stack» ≤ length (now slots)) ⌝ }
-    ensures { λ r. ⌜ pressed r (now (slots .exit)) (now (log .exit)) ≡ grantedBy s (now (slots .entry)) (now (log .entry)) u (logCheck (s .count) (length (now (log .entry)))) ⌝ }
+fn grant(slots: &mut [u32], log: &mut [u32], s: State, u: Update) -> PressResult
+    requires { ⌜ (u .many ≤ 6) × (u .first + u .many ≤ frameSize s) × (frameSize s ≤ length (now slots)) ⌝ }
+    ensures { λ r. ⌜ pressed r (now (slots .exit)) (now (log .exit)) ≡ grantedBy s (now (slots .entry)) (now (log .entry)) 0 u (logCheck (s .count) (length (now (log .entry)))) ⌝ }
 {
     if entries(log) <= s.count {
-        return Press {
+        return PressResult {
             state: s,
             answer: Pressed::Refused(12),
         };
@@ -35,7 +36,7 @@ fn grant(slots: &mut [u32], log: &mut [u32], s: State, u: Update) -> Press
     write_entry(slots, log, s, u);
     commit(slots, s, u);
     let state = moved(s, u.pc, u.depth, s.count + 1);
-    Press {
+    PressResult {
         state,
         answer: Pressed::Granted,
     }
@@ -49,22 +50,22 @@ pub fn forward(
     slots: &mut [u32],
     log: &mut [u32],
     s: State,
-) -> Press
-    ensures { λ r. ⌜ pressed r (now (slots .exit)) (now (log .exit)) ≡ forwardOf (method (now (code .entry)) (now (kinds .entry)) (now (words .entry))) s (now (slots .entry)) (now (log .entry)) ⌝ }
+) -> PressResult
+    ensures { λ r. ⌜ pressed r (now (slots .exit)) (now (log .exit)) ≡ forwardOf (machine (now (code .entry)) (now (kinds .entry)) (now (words .entry))) s (now (slots .entry)) (now (log .entry)) ⌝ }
 {
     let reached = advance(code, kinds, words, slots, s, 0);
     let decision = reached.decision;
     match decision {
         Decision::Ordinary(u) => grant(slots, log, s, u),
-        Decision::Return(v) => Press {
+        Decision::Return(v) => PressResult {
             state: s,
             answer: Pressed::Return(v),
         },
-        Decision::Throw => Press {
+        Decision::Throw => PressResult {
             state: s,
             answer: Pressed::Throw,
         },
-        Decision::Refused(n) => Press {
+        Decision::Refused(n) => PressResult {
             state: s,
             answer: Pressed::Refused(n),
         },

@@ -8,7 +8,7 @@ mod undo_log;
 pub use answer_words::pressed_answer;
 pub use answer_words::value_answer;
 pub use back_press::back;
-pub use forward_press::Press;
+pub use forward_press::PressResult;
 pub use forward_press::forward;
 pub use press_list::Replay;
 pub use press_list::presses;

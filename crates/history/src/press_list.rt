@@ -1,7 +1,7 @@
 // A list of presses, made one after the other.
 use crate::answer_words::pressed_answer;
 use crate::back_press::back;
-use crate::forward_press::Press;
+use crate::forward_press::PressResult;
 use crate::forward_press::forward;
 use frame::write_words;
 use rules::Pressed;
@@ -11,6 +11,7 @@ ghost use Prim.Native.Nat.{_+_, _*_, _≤_};
 ghost use lib.ListN.{length};
 ghost use lib.Seq.{paste};
 ghost use Rattle.rules.specs.Questions.{method};
+ghost use Rattle.rules.specs.Step.{machine, coreRules};
 ghost use Rattle.rules.specs.Walk.{pressOf, walkOf};
 ghost use Rattle.rules.specs.Presses.{pressOfByte, pressesOfBytes, answerWords, replayed, replayOf, FromAnyLoad};
 ghost use Rattle.history.specs.Left.{pressed, left};
@@ -30,8 +31,8 @@ fn press(
     log: &mut [u32],
     s: State,
     byte: u8,
-) -> Press
-    ensures { λ r. ⌜ pressed r (now (slots .exit)) (now (log .exit)) ≡ pressOf (method (now (code .entry)) (now (kinds .entry)) (now (words .entry))) (pressOfByte byte) s (now (slots .entry)) (now (log .entry)) ⌝ }
+) -> PressResult
+    ensures { λ r. ⌜ pressed r (now (slots .exit)) (now (log .exit)) ≡ pressOf (machine (now (code .entry)) (now (kinds .entry)) (now (words .entry))) (pressOfByte byte) s (now (slots .entry)) (now (log .entry)) ⌝ }
 {
     if byte == 0 {
         return back(code, kinds, words, slots, log, s);
@@ -61,7 +62,7 @@ fn make_presses(
     answers: &mut [u32],
 ) -> Replay
     requires { ⌜ 3 * length (now bytes) ≤ length (now answers) ⌝ }
-    ensures { λ r. ⌜ left r (now (slots .exit)) (now (log .exit)) (now (answers .exit)) ≡ replayed (now (answers .entry)) (length (now (bytes .entry))) (walkOf (method (now (code .entry)) (now (kinds .entry)) (now (words .entry))) (pressesOfBytes (now (bytes .entry))) s (now (slots .entry)) (now (log .entry))) ⌝ }
+    ensures { λ r. ⌜ left r (now (slots .exit)) (now (log .exit)) (now (answers .exit)) ≡ replayed (now (answers .entry)) (length (now (bytes .entry))) (walkOf (machine (now (code .entry)) (now (kinds .entry)) (now (words .entry))) (pressesOfBytes (now (bytes .entry))) s (now (slots .entry)) (now (log .entry))) ⌝ }
 {
     let mut t = s;
     let mut i = 0;
@@ -89,8 +90,8 @@ pub fn presses(
     bytes: &[u8],
     answers: &mut [u32],
 ) -> Replay
-    ensures { λ r. ⌜ left r (now (slots .exit)) (now (log .exit)) (now (answers .exit)) ≡ replayOf (method (now (code .entry)) (now (kinds .entry)) (now (words .entry))) (now (bytes .entry)) s (now (slots .entry)) (now (log .entry)) (now (answers .entry)) ⌝ }
-    ensures { λ r. ⌜ FromAnyLoad (method (now (code .entry)) (now (kinds .entry)) (now (words .entry))) s (now (slots .entry)) (now (log .entry)) (now (answers .entry)) (now (bytes .entry)) (left r (now (slots .exit)) (now (log .exit)) (now (answers .exit))) ⌝ }
+    ensures { λ r. ⌜ left r (now (slots .exit)) (now (log .exit)) (now (answers .exit)) ≡ replayOf (machine (now (code .entry)) (now (kinds .entry)) (now (words .entry))) (now (bytes .entry)) s (now (slots .entry)) (now (log .entry)) (now (answers .entry)) ⌝ }
+    ensures { λ r. ⌜ FromAnyLoad coreRules (method (now (code .entry)) (now (kinds .entry)) (now (words .entry))) s (now (slots .entry)) (now (log .entry)) (now (answers .entry)) (now (bytes .entry)) (left r (now (slots .exit)) (now (log .exit)) (now (answers .exit))) ⌝ }
 {
     if answers.len() / 3 < bytes.len() {
         return Replay {

@@ -11,11 +11,14 @@ ghost use Rattle.rules.specs.Check.{isPassed};
 ghost use Rattle.rules.specs.History.{entryAt, oldWords, undoRecord, entryCheck, restored};
 ghost use Rattle.history.specs.Left.{entryOf, takenBack};
 
+// The words of an entry: offset, depth, first place, how many, and six old words.
+const ENTRY: usize = 10;
+
 // How many whole entries the log has.
 pub(crate) fn entries(log: &[u32]) -> u64
     ensures { λ r. ⌜ r ≡ length (now (log .entry)) / 10 ⌝ }
 {
-    (log.len() / 10) as u64
+    (log.len() / ENTRY) as u64
 }
 
 // The index of an entry in the log.
@@ -23,12 +26,12 @@ fn entry_at(n: u64) -> usize
     requires { ⌜ entryAt n < 2 ^ 64 ⌝ }
     ensures { λ r. ⌜ r ≡ entryAt n ⌝ }
 {
-    (10 * n) as usize
+    ENTRY * n as usize
 }
 
 // One of the six old words of an undo record: the word of a place that is written, and 0 past those.
 fn old_word(slots: &[u32], first: usize, many: u32, i: usize) -> u32
-    requires { ⌜ (first + many ≤ length (now slots)) × (many ≤ 6) ⌝ }
+    requires { ⌜ first + many ≤ length (now slots) ⌝ }
     ensures { λ r. ⌜ r ≡ getD (oldWords (now (slots .entry)) first many) i 0 ⌝ }
 {
     if i < many as usize {
@@ -57,7 +60,7 @@ pub(crate) fn write_entry(slots: &[u32], log: &mut [u32], s: State, u: Update)
         old_word(slots, first, u.many, 5),
     ];
     let at = entry_at(s.count);
-    write_words(log, at, &entry, 10);
+    write_words(log, at, &entry, ENTRY);
 }
 
 // An entry but for its old words.

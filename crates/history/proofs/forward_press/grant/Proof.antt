@@ -15,7 +15,7 @@ same-length c = search needs
 returns : tie.Need-returns
 returns c =
     let a = c .before .before .before .before .before .before .args in
-    without-room (a .s) (now (a .slots)) (now (a .log)) (a .u) (omega (arith, c .if1 .taken, c .before .before .entries .ensures))
+    without-room (a .s) (now (a .slots)) (now (a .log)) 0 (a .u) (omega (arith, c .if1 .taken, c .before .before .entries .ensures))
 
 write-entry-requires : tie.Need-write-entry-requires
 write-entry-requires c κs = search needs
@@ -39,7 +39,7 @@ returns-2 : tie.Need-returns-2
 returns-2 c =
     let a = c .before .before .before .before .before .before .before .before .before .before .before .before .before .before .before .before .before .args in
     rw (c .moved .ensures, c .before .before .before .before .commit .ensures, c .before .before .before .before .before .before .before .before .write-entry .ensures)
-    (with-room (a .s) (now (a .slots)) (now (a .log)) (a .u) (omega (arith, c .before .before .before .before .before .before .before .before .before .before .before .if1 .left, c .before .before .before .before .before .before .before .before .before .before .before .before .before .entries .ensures)))
+    (with-room (a .s) (now (a .slots)) (now (a .log)) 0 (a .u) (omega (arith, c .before .before .before .before .before .before .before .before .before .before .before .if1 .left, c .before .before .before .before .before .before .before .before .before .before .before .before .before .entries .ensures)))
 
 pub grant-spec : {M : Type 1} → statement M
 grant-spec =

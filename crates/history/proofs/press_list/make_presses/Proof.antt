@@ -1,7 +1,7 @@
 -- `make_presses` meets its contract. The loop's invariant is `Replaying`; the measure is what is left of the list. Assumes nothing.
 use native.Mathlib.Omega.{arith}
 use denote.Ref.{now}
-use Rattle.rules.specs.Questions.{method}
+use Rattle.rules.specs.Step.{machine}
 use Prim.Native.Nat.{_+_, _-_, _*_, _≤_}
 use lib.ListN.{length}
 use Rattle.rules.proofs.Replay.{Replaying, begins, one-more, all-made}
@@ -10,7 +10,7 @@ use Rattle.history.proofs.press_list.make_presses.Statement.{statement}
 use Rattle.history.proofs.press_list.make_presses.Tie as tie
 
 abbrev Inv-loop : tie.InvT-loop
-Inv-loop code kinds words slots₀ log₀ bytes answers₀ t₀ i₀ slots log answers t i = Replaying (method code kinds words) bytes t₀ slots₀ log₀ answers₀ i t slots log answers
+Inv-loop code kinds words slots₀ log₀ bytes answers₀ t₀ i₀ slots log answers t i = Replaying (machine code kinds words) bytes t₀ slots₀ log₀ answers₀ i t slots log answers
 
 abbrev μ-loop : tie.MeasureT-loop
 μ-loop code kinds words slots₀ log₀ bytes answers₀ t₀ i₀ slots log answers t i = length bytes - i
@@ -18,7 +18,7 @@ abbrev μ-loop : tie.MeasureT-loop
 loop-holds : tie.Need-loop-holds Inv-loop μ-loop
 loop-holds c =
     let a = c .before .before .before .before .before .before .before .args in
-    begins (method (now (a .code)) (now (a .kinds)) (now (a .words))) (now (a .bytes)) (a .s) (now (a .slots)) (now (a .log)) (now (a .answers))
+    begins (machine (now (a .code)) (now (a .kinds)) (now (a .words))) (now (a .bytes)) (a .s) (now (a .slots)) (now (a .log)) (now (a .answers))
 
 shared-slice-read-press : tie.Need-shared-slice-read-press Inv-loop μ-loop
 shared-slice-read-press c = omega arith
@@ -45,7 +45,7 @@ loop-less c = omega (arith, c .before .before .before .before .before .before .b
 loop-again : tie.Need-loop-again Inv-loop μ-loop
 loop-again c =
     let a = c .before .before .before .before .before .before .before .before .before .before .before .before .before .before .before .before .before .before .before .before .before .before .args in
-    let l = method (now (a .code)) (now (a .kinds)) (now (a .words)) in
+    let l = machine (now (a .code)) (now (a .kinds)) (now (a .words)) in
     let t = c .before .before .before .before .before .before .before .before .before .before .before .before .before .before .loop in
     let p = c .before .before .before .before .before .before .before .before .before .press in
     let room : 3 * t .i + 3 ≤ length (t .answers) = omega (arith, c .before .before .before .before .before .before .before .before .before .before .before .before .before .loop-test .taken, c .before .before .before .before .before .before .before .before .before .before .before .before .before .before .before .before .before .before .before .before .before .before .pre, t .inv .long-answers) in
@@ -64,7 +64,7 @@ same-length-3 c = c .before .loop .inv .long-answers
 returns : tie.Need-returns Inv-loop μ-loop
 returns c =
     let a = c .before .before .before .before .before .before .before .before .before .args in
-    let l = method (now (a .code)) (now (a .kinds)) (now (a .words)) in
+    let l = machine (now (a .code)) (now (a .kinds)) (now (a .words)) in
     let t = c .before .loop in
     all-made l (now (a .bytes)) (a .s) (now (a .slots)) (now (a .log)) (now (a .answers)) (t .i) (t .t) (t .slots) (t .log) (t .answers) (t .inv) (c .loop-test .left) (c .before .before .before .before .before .before .before .before .before .pre)
 

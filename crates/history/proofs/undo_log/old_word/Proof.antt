@@ -17,12 +17,12 @@ shared-slice-read-result c = search needs
 returns : tie.Need-returns
 returns c =
     let a = c .before .before .args in
-    old-there (now (a .slots)) (a .first) (a .many) (c .before .before .pre .0) (a .i) (c .before .if1 .taken)
+    old-there (now (a .slots)) (a .first) (a .many) (c .before .before .pre) (a .i) (c .before .if1 .taken)
 
 returns-2 : tie.Need-returns-2
 returns-2 c =
     let a = c .before .args in
-    old-beyond (now (a .slots)) (a .first) (a .many) (c .before .pre .0) (a .i) (c .if1 .left)
+    old-beyond (now (a .slots)) (a .first) (a .many) (c .before .pre) (a .i) (c .if1 .left)
 
 pub old-word-spec : {M : Type 1} → statement M
 old-word-spec =
