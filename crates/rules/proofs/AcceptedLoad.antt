@@ -11,6 +11,7 @@ use borrow.Author.Tests.{leb-true, le-leb, eqb-true}
 use Rattle.rules.specs.declared.Reading.{Reading}
 use Rattle.rules.specs.declared.State.{State}
 use Rattle.rules.specs.declared.Load.the-variants as Load
+use Rattle.rules.specs.declared.Loaded.{Loaded}
 use Rattle.rules.specs.Check.{Check, passed, refused, _>>=_, _>>_}
 use Rattle.rules.specs.Fetch.{u8, u32}
 use Rattle.rules.specs.Questions.{method}
@@ -18,7 +19,7 @@ use Rattle.rules.specs.Step.{frame}
 use Rattle.rules.specs.Sheet.{recordEnd, bodyAt, poolIndex, isWide, sheetCheck, memoryCheck, Pool, withWords, withValue, poolFrom, loadedPool, argumentsFrom, loadedFrame, loadedSlots, loadedState, acceptedLoad, loadBy, loadOf, codeOf}
 use Rattle.rules.proofs.Check.{first-passed, last-passed}
 use Rattle.rules.proofs.Questions.{Framed}
-use Rattle.rules.proofs.Sheet.{Within, sheet-within, code-at-12, load-accepted}
+use Rattle.rules.proofs.Sheet.{Within, sheet-within, code-at-12, sheet-numbered, memory-above, load-accepted}
 
 -- ---- lengths
 
@@ -134,12 +135,39 @@ module _ (sheet slots kinds words : List ℕ) where
       go (passed p) q k = by-memory p q (memoryCheck p slots kinds words) refl k
       go (refused m) q k = let z : _≡_ {A = ℕ} 0 1 = cc in absurd (omega arith)
 
--- ---- where an accepted load says that the code lies
+-- ---- what an accepted load says: where the code lies, and its sizes
 
-module _ (sheet slots kinds words : List ℕ) (bytes : (i : ℕ) → u8 sheet i < 256) where
-  pub accepted-where : loadOf sheet slots kinds words .loaded .answer ≡ Load.Accepted
-      → (loadOf sheet slots kinds words .loaded .code ≡ 12) × (loadOf sheet slots kinds words .loaded .«code_length» ≤ 65535)
-  accepted-where h =
-      let r = was-read sheet slots kinds words h in
-      let e = load-accepted sheet slots kinds words (r .reading) (r .read) (r .fits) (loadedPool sheet (r .reading) kinds words) refl in
-      rw (← e) (code-at-12 sheet (r .reading) (r .read), sheet-within sheet (r .reading) (r .read) .0 .short-code bytes)
+-- the load and where its code lies, by the reading
+pub record Said (sheet : List ℕ) (x : Loaded) : Type 0 where
+  pub starts : x .code ≡ 12
+  pub short : x .«code_length» ≤ 65535
+  pub is-part : codeOf sheet x ≡ take (x .«code_length») (drop (x .code) sheet)
+  pub small-stack : x .state .«max_stack» ≤ 65535
+  pub small-locals : x .state .«max_locals» ≤ 65535
+
+pub accepted-said : (sheet slots kinds words : List ℕ) → ((i : ℕ) → u8 sheet i < 256) → loadOf sheet slots kinds words .loaded .answer ≡ Load.Accepted → Said sheet (loadOf sheet slots kinds words .loaded)
+accepted-said sheet slots kinds words bytes h =
+    let r = was-read sheet slots kinds words h in
+    let p = r .reading in
+    let w = sheet-within sheet p (r .read) .0 in
+    rw (← load-accepted sheet slots kinds words p (r .read) (r .fits) (loadedPool sheet p kinds words) refl)
+    (record {
+      starts = code-at-12 sheet p (r .read);
+      short = w .short-code bytes;
+      is-part = code-is sheet slots kinds words bytes p (r .read) (r .fits);
+      small-stack = w .small-stack bytes;
+      small-locals = w .small-locals bytes;
+    })
+
+-- a load that is refused is refused with a number above 0
+pub refused-above : (sheet slots kinds words : List ℕ) (k : ℕ) → loadOf sheet slots kinds words .loaded .answer ≡ Load.Refused k → 0 < k
+unfolding loadOf _>>=_ _>>_
+refused-above sheet slots kinds words k h = go (sheetCheck sheet) refl h
+  where
+    by-memory : (p : Reading) (x : Check (Unit {0})) → memoryCheck p slots kinds words ≡ x → loadBy sheet slots kinds words (x >> passed p) .loaded .answer ≡ Load.Refused k → 0 < k
+    by-memory p (passed t) m e = let z : _≡_ {A = ℕ} 0 1 = cc in absurd (omega arith)
+    by-memory p (refused n) m e = let q : n ≡ k = cc in omega (arith, memory-above p slots kinds words n m)
+
+    go : (x : Check Reading) → sheetCheck sheet ≡ x → loadBy sheet slots kinds words (x >>= λ p. memoryCheck p slots kinds words >> passed p) .loaded .answer ≡ Load.Refused k → 0 < k
+    go (passed p) q e = by-memory p (memoryCheck p slots kinds words) refl e
+    go (refused n) q e = let s : n ≡ k = cc in omega (arith, sheet-numbered sheet n q)

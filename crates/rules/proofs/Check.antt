@@ -68,3 +68,40 @@ module _ {A : Type 0} (P : A → Type 0) where
   pub either : (t : Bool) (x y : Check A) → Holds x → Holds y → Holds (cond t x y)
   either true x y h k = h
   either false x y h k = k
+
+-- ---- the numbers that it refuses with: N holds of them, and P of what passes
+
+abbrev pub Any : {A : Type 0} → A → Type 0
+Any a = Unit {0}
+
+module _ (N : ℕ → Type 0) where
+  unfoldable pub Numbered : {A : Type 0} → (A → Type 0) → Check A → Type 0
+  Numbered P (passed a) = P a
+  Numbered P (refused n) = N n
+
+  pub last-numbered : (t : Bool) (n : ℕ) → N n → Numbered Any (t else n)
+  unfolding Numbered _else_
+  last-numbered true n h = tt
+  last-numbered false n h = h
+
+  module _ {A : Type 0} (P : A → Type 0) where
+    pub after-numbered : {B : Type 0} (x : Check B) (y : Check A) → Numbered Any x → Numbered P y → Numbered P (x >> y)
+    unfolding Numbered _>>_
+    after-numbered (passed b) y h k = k
+    after-numbered (refused n) y h k = h
+
+    pub bound-numbered : {B : Type 0} (x : Check B) (f : B → Check A) → Numbered Any x → ((b : B) → Numbered P (f b)) → Numbered P (x >>= f)
+    unfolding Numbered _>>=_
+    bound-numbered (passed b) f h k = k b
+    bound-numbered (refused n) f h k = h
+
+    pub asked-numbered : (t : Bool) (n : ℕ) (y : Check A) → N n → Numbered P y → Numbered P ((t else n) >> y)
+    asked-numbered t n y h k = after-numbered (t else n) y (last-numbered t n h) k
+
+    pub either-numbered : (t : Bool) (x y : Check A) → Numbered P x → Numbered P y → Numbered P (cond t x y)
+    either-numbered true x y h k = h
+    either-numbered false x y h k = k
+
+    pub refused-numbered : (x : Check A) (n : ℕ) → Numbered P x → x ≡ refused n → N n
+    unfolding Numbered
+    refused-numbered x n h e = rw e at h

@@ -18,6 +18,7 @@ use Rattle.rules.specs.Instructions.{rowOf}
 use Rattle.rules.specs.Fetch.{u8, Instruction, coreRow, core, sized, wideOpcode, wideCheck, tableCheck, lookupCheck, byFormat, fetched}
 use Rattle.rules.specs.Questions.{Method, pushed, frameCheck, needsCheck}
 use Rattle.rules.specs.Step.{base, inside, ordinary, following, target, outcome, decision, decideFrame}
+use Rattle.rules.proofs.Check.{Any, Numbered, last-numbered, after-numbered, bound-numbered, asked-numbered, either-numbered}
 use Rattle.rules.proofs.Step.{result}
 
 -- ---- a row of questions
@@ -25,61 +26,30 @@ use Rattle.rules.proofs.Step.{result}
 abbrev pub OfStep : ℕ → Type 0
 OfStep n = ((1 ≤ⁿ n) && (n ≤ⁿ 11)) ≡ true
 
--- its refusals have such numbers, and P holds of what passes it
-unfoldable Numbered : {A : Type 0} → (A → Type 0) → Check A → Type 0
-Numbered P (passed a) = P a
-Numbered P (refused n) = OfStep n
-
-abbrev Any : {A : Type 0} → A → Type 0
-Any a = Unit {0}
-
-last : (t : Bool) (n : ℕ) → OfStep n → Numbered Any (t else n)
-unfolding Numbered _else_
-last true n h = tt
-last false n h = h
-
-module _ {A : Type 0} (P : A → Type 0) where
-  after : {B : Type 0} (x : Check B) (y : Check A) → Numbered Any x → Numbered P y → Numbered P (x >> y)
-  unfolding Numbered _>>_
-  after (passed b) y h k = k
-  after (refused n) y h k = h
-
-  bound : {B : Type 0} (x : Check B) (f : B → Check A) → Numbered Any x → ((b : B) → Numbered P (f b)) → Numbered P (x >>= f)
-  unfolding Numbered _>>=_
-  bound (passed b) f h k = k b
-  bound (refused n) f h k = h
-
-  asked : (t : Bool) (n : ℕ) (y : Check A) → OfStep n → Numbered P y → Numbered P ((t else n) >> y)
-  asked t n y h k = after (t else n) y (last t n h) k
-
-  either : (t : Bool) (x y : Check A) → Numbered P x → Numbered P y → Numbered P (cond t x y)
-  either true x y h k = h
-  either false x y h k = k
-
 -- ---- the questions of a step
 
-frame-numbered : (l : Method) (s : State) (n : ℕ) → Numbered Any (frameCheck l s n)
+frame-numbered : (l : Method) (s : State) (n : ℕ) → Numbered OfStep Any (frameCheck l s n)
 unfolding frameCheck
 frame-numbered l s n =
-    asked Any _ 1 _ refl (asked Any _ 1 _ refl (asked Any _ 1 _ refl (asked Any _ 2 _ refl (asked Any _ 2 _ refl (asked Any _ 2 _ refl (last _ 3 refl))))))
+    asked-numbered OfStep Any _ 1 _ refl (asked-numbered OfStep Any _ 1 _ refl (asked-numbered OfStep Any _ 1 _ refl (asked-numbered OfStep Any _ 2 _ refl (asked-numbered OfStep Any _ 2 _ refl (asked-numbered OfStep Any _ 2 _ refl (last-numbered OfStep _ 3 refl))))))
 
-core-numbered : (r : Option Row) → Numbered Any (coreRow r)
+core-numbered : (r : Option Row) → Numbered OfStep Any (coreRow r)
 unfolding Numbered
 core-numbered none = refl
 core-numbered (some r) = tt
 
 module _ (code : List ℕ) (pc : ℕ) where
-  sized-numbered : (r : Row) (n : ℕ) (o : Operand) → Numbered Any (sized code pc r n o)
+  sized-numbered : (r : Row) (n : ℕ) (o : Operand) → Numbered OfStep Any (sized code pc r n o)
   unfolding Numbered
-  sized-numbered r n o = asked Any _ 5 _ refl tt
+  sized-numbered r n o = asked-numbered OfStep Any _ 5 _ refl tt
 
-  wide-numbered : Numbered Any (wideCheck code pc)
+  wide-numbered : Numbered OfStep Any (wideCheck code pc)
   unfolding wideCheck
   wide-numbered =
-      asked Any _ 5 _ refl (asked Any _ 4 _ refl (bound Any (core (wideOpcode code pc)) _ (core-numbered (rowOf (wideOpcode code pc))) (λ r.
-      either Any (wideOpcode code pc =ⁿ 132) _ _ (sized-numbered r 6 _) (sized-numbered r 4 _))))
+      asked-numbered OfStep Any _ 5 _ refl (asked-numbered OfStep Any _ 4 _ refl (bound-numbered OfStep Any (core (wideOpcode code pc)) _ (core-numbered (rowOf (wideOpcode code pc))) (λ r.
+      either-numbered OfStep Any (wideOpcode code pc =ⁿ 132) _ _ (sized-numbered r 6 _) (sized-numbered r 4 _))))
 
-  format-numbered : (r : Row) (f : Format) → Numbered Any (byFormat code pc r f)
+  format-numbered : (r : Row) (f : Format) → Numbered OfStep Any (byFormat code pc r f)
   unfolding Numbered tableCheck lookupCheck
   format-numbered r alone = sized-numbered r 1 _
   format-numbered r (implied n) = sized-numbered r 1 _
@@ -90,13 +60,13 @@ module _ (code : List ℕ) (pc : ℕ) where
   format-numbered r index-const = sized-numbered r 3 _
   format-numbered r branch = sized-numbered r 3 _
   format-numbered r branch4 = sized-numbered r 5 _
-  format-numbered r table = asked Any _ 5 _ refl (asked Any _ 6 _ refl (asked Any _ 5 _ refl tt))
-  format-numbered r pairs = asked Any _ 5 _ refl (asked Any _ 6 _ refl (asked Any _ 5 _ refl (asked Any _ 6 _ refl tt)))
+  format-numbered r table = asked-numbered OfStep Any _ 5 _ refl (asked-numbered OfStep Any _ 6 _ refl (asked-numbered OfStep Any _ 5 _ refl tt))
+  format-numbered r pairs = asked-numbered OfStep Any _ 5 _ refl (asked-numbered OfStep Any _ 6 _ refl (asked-numbered OfStep Any _ 5 _ refl (asked-numbered OfStep Any _ 6 _ refl tt)))
   format-numbered r widened = wide-numbered
 
-  fetch-numbered : Numbered Any (fetched code pc)
+  fetch-numbered : Numbered OfStep Any (fetched code pc)
   unfolding fetched
-  fetch-numbered = bound Any (core (u8 code pc)) _ (core-numbered (rowOf (u8 code pc))) (λ r. format-numbered r (r .format))
+  fetch-numbered = bound-numbered OfStep Any (core (u8 code pc)) _ (core-numbered (rowOf (u8 code pc))) (λ r. format-numbered r (r .format))
 
 -- ---- the decision
 
@@ -109,30 +79,30 @@ IfRefused P (Refused n) = P n
 abbrev Fine : Decision → Type 0
 Fine d = IfRefused OfStep d
 
-decision-numbered : (x : Check Decision) → Numbered Fine x → Fine (decision x)
+decision-numbered : (x : Check Decision) → Numbered OfStep Fine x → Fine (decision x)
 unfolding Numbered
 decision-numbered (passed d) h = h
 decision-numbered (refused n) h = h
 
 module _ (l : Method) (s : State) where
-  needs-numbered : (i : Instruction) → Numbered Any (needsCheck l s i)
+  needs-numbered : (i : Instruction) → Numbered OfStep Any (needsCheck l s i)
   unfolding needsCheck
-  needs-numbered i = asked Any _ 7 _ refl (asked Any _ 8 _ refl (asked Any _ 9 _ refl (last _ 10 refl)))
+  needs-numbered i = asked-numbered OfStep Any _ 7 _ refl (asked-numbered OfStep Any _ 8 _ refl (asked-numbered OfStep Any _ 9 _ refl (last-numbered OfStep _ 10 refl)))
 
-  inside-numbered : (to : ℤ) → Numbered Any (inside (l .code) to)
+  inside-numbered : (to : ℤ) → Numbered OfStep Any (inside (l .code) to)
   unfolding Numbered
-  inside-numbered (pos n) = asked Any _ 11 _ refl tt
+  inside-numbered (pos n) = asked-numbered OfStep Any _ 11 _ refl tt
   inside-numbered (negsuc n) = refl
 
-  ordinary-numbered : (i : Instruction) (to : ℤ) (at n : ℕ) (ws : List ℕ) → Numbered Fine (ordinary l s i to at n ws)
+  ordinary-numbered : (i : Instruction) (to : ℤ) (at n : ℕ) (ws : List ℕ) → Numbered OfStep Fine (ordinary l s i to at n ws)
   unfolding Numbered
-  ordinary-numbered i to at n ws = bound Fine (inside (l .code) to) _ (inside-numbered to) (λ pc. tt)
+  ordinary-numbered i to at n ws = bound-numbered OfStep Fine (inside (l .code) to) _ (inside-numbered to) (λ pc. tt)
 
-  outcome-numbered : (i : Instruction) (r : Result) → Numbered Fine (outcome l s i r)
+  outcome-numbered : (i : Instruction) (r : Result) → Numbered OfStep Fine (outcome l s i r)
   unfolding Numbered
   outcome-numbered i (pushes ws) = ordinary-numbered i (following s i) (base s i) (pushed i) ws
   outcome-numbered i (stores ws) = ordinary-numbered i (following s i) (i .operand .index) (placesOf (i .rule .locals)) ws
-  outcome-numbered i (divides by ws) = either Fine (by =ⁿ 0) _ _ tt (ordinary-numbered i (following s i) (base s i) (pushed i) ws)
+  outcome-numbered i (divides by ws) = either-numbered OfStep Fine (by =ⁿ 0) _ _ tt (ordinary-numbered i (following s i) (base s i) (pushed i) ws)
   outcome-numbered i (branches t z) = ordinary-numbered i (cond t (target s z) (following s i)) 0 0 []
   outcome-numbered i (returns v) = tt
 
@@ -140,9 +110,9 @@ module _ (l : Method) (s : State) where
   pub decide-numbered : (n : ℕ) (words : List ℕ) → IfRefused OfStep (decideFrame l n s words)
   unfolding decideFrame
   decide-numbered n words = decision-numbered _
-      (after Fine (frameCheck l s n) _ (frame-numbered l s n)
-      (bound Fine (fetched (l .code) (s .pc)) _ (fetch-numbered (l .code) (s .pc)) (λ i.
-      after Fine (needsCheck l s i) _ (needs-numbered i) (outcome-numbered i (result l s words i)))))
+      (after-numbered OfStep Fine (frameCheck l s n) _ (frame-numbered l s n)
+      (bound-numbered OfStep Fine (fetched (l .code) (s .pc)) _ (fetch-numbered (l .code) (s .pc)) (λ i.
+      after-numbered OfStep Fine (needsCheck l s i) _ (needs-numbered i) (outcome-numbered i (result l s words i)))))
 
 -- so it is not 14, which is back's
 abbrev pub Not14 : ℕ → Type 0

@@ -4,16 +4,16 @@ use mathlib.Core.Path.{_≡_, refl, sym, ap, _∙_}
 use mathlib.Core.Bool.{Bool, true, false, _||_, cond}
 use mathlib.Core.List.{List}
 use native.Mathlib.Omega.{arith}
-use lib.Dec.{leb, eqb}
+use lib.Dec.{ltb, leb, eqb}
 use lib.ListN.{length, set}
-use borrow.Author.Tests.{leb-true, le-leb, lt-leb, le-ltb, lt-ltb, eqb-true, eq-eqb, ne-eqb}
+use borrow.Author.Tests.{ltb-true, leb-true, le-leb, lt-leb, le-ltb, lt-ltb, eqb-true, eq-eqb, ne-eqb}
 use Rattle.rules.specs.declared.Mark.{Mark}
 use Rattle.rules.specs.declared.Mark.the-variants.{LM, CD, KI, AR}
 use Rattle.rules.specs.declared.Reading.{Reading}
 use Rattle.rules.specs.Check.{Check, passed, refused, _else_, _>>=_, _>>_}
 use Rattle.rules.specs.Fetch.{u8, u16, u32}
 use Rattle.rules.specs.Sheet.{bodyLength, bodyAt, recordEnd, knownMark, follows, rightLength, unread, withRecord, poolIndex, poolTag, tagSuits, lastIndex, argumentCount, contentsCheck, markedCheck, recordCheck, endCheck, readFrom, sheetCheck, Pool, withWords, withValue, poolFrom, loadedPool, loadedSlots, acceptedLoad, refusedLoad, memoryCheck, loadOf}
-use Rattle.rules.proofs.Check.{last-passed, Holds, asked, after, bound, held, either, bind-same}
+use Rattle.rules.proofs.Check.{last-passed, Holds, asked, after, bound, held, either, bind-same, Any, Numbered, last-numbered, after-numbered, bound-numbered, asked-numbered, either-numbered, refused-numbered}
 
 -- ---- a record, question by question
 
@@ -178,6 +178,8 @@ pub record Within (sheet : List ℕ) (p : Reading) : Type 0 where
   pub after-head : 4 ≤ p .last → 4 ≤ p .arguments
   pub arguments-there : 4 ≤ p .last → p .arguments + 4 * p .«argument_count» ≤ length sheet
   pub few-arguments : 4 ≤ p .last → p .«argument_count» ≤ p .«max_locals»
+  pub small-stack : ((i : ℕ) → u8 sheet i < 256) → p .«max_stack» ≤ 65535
+  pub small-locals : ((i : ℕ) → u8 sheet i < 256) → p .«max_locals» ≤ 65535
 
 -- a KI or an AR record comes after the code
 after-code : (last : ℕ) → (eqb last 2 || eqb last 3) ≡ true → 2 ≤ last
@@ -205,6 +207,8 @@ module _ (sheet : List ℕ) where
       after-head = λ k. absurd (omega arith);
       arguments-there = λ k. absurd (omega arith);
       few-arguments = λ k. absurd (omega arith);
+      small-stack = λ bytes. omega (arith, bytes (bodyAt at), bytes (bodyAt at + 1));
+      small-locals = λ bytes. omega (arith, bytes (bodyAt at + 2), bytes (bodyAt at + 2 + 1));
     }
     with-within CD f r c = record {
       code-there = λ k. there;
@@ -213,6 +217,8 @@ module _ (sheet : List ℕ) where
       after-head = λ k. absurd (omega arith);
       arguments-there = λ k. absurd (omega arith);
       few-arguments = λ k. absurd (omega arith);
+      small-stack = h .small-stack;
+      small-locals = h .small-locals;
     }
     with-within KI f r c = record {
       code-there = λ k. h .code-there (after-code (p .last) f);
@@ -221,6 +227,8 @@ module _ (sheet : List ℕ) where
       after-head = λ k. absurd (omega arith);
       arguments-there = λ k. absurd (omega arith);
       few-arguments = λ k. absurd (omega arith);
+      small-stack = h .small-stack;
+      small-locals = h .small-locals;
     }
     with-within AR f r c = record {
       code-there = λ k. h .code-there (after-code (p .last) f);
@@ -229,6 +237,8 @@ module _ (sheet : List ℕ) where
       after-head = λ k. omega arith;
       arguments-there = λ k. let e = eqb-true (bodyLength sheet at % 4) 0 r in omega arith;
       few-arguments = λ k. leb-true _ _ (last-passed _ 27 c);
+      small-stack = h .small-stack;
+      small-locals = h .small-locals;
     }
 
   record-within : (at : ℕ) (p : Reading) → Within sheet p → Holds W (recordCheck sheet at p)
@@ -262,6 +272,8 @@ module _ (sheet : List ℕ) where
         after-head = λ k. absurd (omega arith);
         arguments-there = λ k. absurd (omega arith);
         few-arguments = λ k. absurd (omega arith);
+        small-stack = λ b. omega arith;
+        small-locals = λ b. omega arith;
       }
 
 -- ---- the code begins at offset 12: it follows LM, which stands first and has four bytes
@@ -319,6 +331,49 @@ module _ (sheet : List ℕ) where
   pub code-at-12 : (p : Reading) → sheetCheck sheet ≡ passed p → p .code ≡ 12
   unfolding sheetCheck At12
   code-at-12 p e = held At12 (sheetCheck sheet) p (read-placed (length sheet) 0 unread (record { first = λ e. refl; second = λ e. absurd (omega arith); code-at = λ k. absurd (omega arith) })) e
+
+-- ---- a sheet is refused with a number above 0
+
+abbrev Above : ℕ → Type 0
+Above n = ltb 0 n ≡ true
+
+module _ (sheet : List ℕ) where
+  mark-numbered : (n : ℕ) → Numbered Above Any (knownMark n)
+  unfolding Numbered
+  mark-numbered n = either-numbered Above Any (eqb n 0x4C4D) _ _ tt (either-numbered Above Any (eqb n 0x4344) _ _ tt (either-numbered Above Any (eqb n 0x4B49) _ _ tt (either-numbered Above Any (eqb n 0x4152) _ _ tt refl)))
+
+  contents-numbered : (at : ℕ) (p : Reading) (m : Mark) → Numbered Above Any (contentsCheck sheet at p m)
+  unfolding contentsCheck Numbered
+  contents-numbered at p LM = tt
+  contents-numbered at p CD = tt
+  contents-numbered at p KI = asked-numbered Above Any _ 25 _ refl (asked-numbered Above Any _ 25 _ refl (last-numbered Above _ 25 refl))
+  contents-numbered at p AR = last-numbered Above _ 27 refl
+
+  record-numbered : (at : ℕ) (p : Reading) → Numbered Above Any (recordCheck sheet at p)
+  unfolding recordCheck markedCheck Numbered
+  record-numbered at p =
+      asked-numbered Above Any _ 21 _ refl (asked-numbered Above Any _ 21 _ refl (bound-numbered Above Any (knownMark (u16 sheet at)) _ (mark-numbered (u16 sheet at)) (λ m.
+      asked-numbered Above Any _ 23 _ refl (asked-numbered Above Any _ 24 _ refl (after-numbered Above Any (contentsCheck sheet at p m) _ (contents-numbered at p m) tt)))))
+
+  end-numbered : (p : Reading) → Numbered Above Any (endCheck p)
+  unfolding Numbered
+  end-numbered p = asked-numbered Above Any _ 23 _ refl tt
+
+  read-numbered : (n at : ℕ) (p : Reading) → Numbered Above Any (readFrom n sheet at p)
+  unfolding readFrom
+  read-numbered zero at p = end-numbered p
+  read-numbered (suc n) at p =
+      either-numbered Above Any (leb (length sheet) at) _ _ (end-numbered p) (bound-numbered Above Any (recordCheck sheet at p) _ (record-numbered at p) (λ q. read-numbered n (recordEnd sheet at) q))
+
+  pub sheet-numbered : (k : ℕ) → sheetCheck sheet ≡ refused k → 0 < k
+  unfolding sheetCheck
+  sheet-numbered k e = ltb-true 0 k (refused-numbered Above Any (sheetCheck sheet) k (read-numbered (length sheet) 0 unread) e)
+
+pub memory-above : (p : Reading) (slots kinds words : List ℕ) (k : ℕ) → memoryCheck p slots kinds words ≡ refused k → 0 < k
+unfolding memoryCheck
+memory-above p slots kinds words k e =
+    ltb-true 0 k (refused-numbered Above Any (memoryCheck p slots kinds words) k
+    (asked-numbered Above Any _ 26 _ refl (asked-numbered Above Any _ 26 _ refl (asked-numbered Above Any _ 26 _ refl (last-numbered Above _ 26 refl)))) e)
 
 -- ---- the load by the answers to its questions
 

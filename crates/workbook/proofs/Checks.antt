@@ -2,16 +2,17 @@
 use Prim.Native.Nat.{ℕ, _≤_, _<_}
 use mathlib.Core.Path.{_≡_, refl}
 use mathlib.Core.Bool.{Bool, true, false}
-use mathlib.Core.List.{List}
+use mathlib.Core.List.{List, []}
 use native.Mathlib.Omega.{arith}
 use lib.Dec.{leb}
 use lib.ListN.{length, getD}
 use borrow.Author.Tests.{leb-true, lt-leb, le-leb}
 use Rattle.rules.specs.Check.{Check, passed, refused, _else_, _>>_, isPassed}
-use Rattle.rules.specs.History.{Out}
+use Rattle.rules.specs.Step.{Stepped}
+use Rattle.rules.specs.History.{AfterPress}
 use Rattle.rules.proofs.Check.{first-passed, last-passed, last-asked, is-passed}
 use Rattle.workbook.specs.StateWords.{lengthsCheck, sizesCheck}
-use Rattle.workbook.specs.Calls.{unchanged, callBy}
+use Rattle.workbook.specs.Calls.{unchanged, callBy, stepCallBy}
 
 -- two questions whose no is 1
 two-no : (a b : Bool) → isPassed ((a else 1) >> (b else 1)) ≡ false → ((a else 1) >> (b else 1)) ≡ refused 1
@@ -62,9 +63,22 @@ module _ (ws : List ℕ) where
       let a = first-passed _ 1 _ (is-passed (sizesCheck ws) e) in
       (leb-true _ _ (a .0), leb-true _ _ (last-passed _ 1 (a .1)))
 
+-- what passes them
+pub lengths-long : (state answer : List ℕ) (n : ℕ) → lengthsCheck state answer n ≡ passed tt → 6 ≤ length state
+unfolding lengthsCheck
+lengths-long state answer n e = leb-true _ _ (first-passed _ 1 _ e .0)
+
+pub lengths-pass : (state answer : List ℕ) (n : ℕ) → 6 ≤ length state → n ≤ length answer → lengthsCheck state answer n ≡ passed tt
+unfolding lengthsCheck _else_ _>>_
+lengths-pass state answer n h k = simp (le-leb _ _ h, le-leb _ _ k)
+
+pub sizes-pass : (ws : List ℕ) → getD ws 0 0 ≤ 65535 → getD ws 1 0 ≤ 65535 → sizesCheck ws ≡ passed tt
+unfolding sizesCheck _else_ _>>_
+sizes-pass ws h k = simp (le-leb _ _ h, le-leb _ _ k)
+
 -- ---- a call
 
-module _ (slots log state answer : List ℕ) (o : Out) (x y : Check (Unit {0})) where
+module _ (slots log state answer : List ℕ) (o : AfterPress) (x y : Check (Unit {0})) where
   pub first-no : x ≡ refused 1 → unchanged slots log state answer 1 ≡ callBy slots log state answer o (x >> y)
   unfolding _>>_
   first-no e = rw e
@@ -72,3 +86,12 @@ module _ (slots log state answer : List ℕ) (o : Out) (x y : Check (Unit {0})) 
   pub second-no : x ≡ passed tt → y ≡ refused 1 → unchanged slots log state answer 1 ≡ callBy slots log state answer o (x >> y)
   unfolding _>>_
   second-no e f = rw (e, f)
+
+module _ (slots state answer : List ℕ) (r : Stepped) (x y : Check (Unit {0})) where
+  pub no-step : x ≡ refused 1 → unchanged slots [] state answer 1 ≡ stepCallBy slots state answer r (x >> y)
+  unfolding _>>_
+  no-step e = rw e
+
+  pub no-step-second : x ≡ passed tt → y ≡ refused 1 → unchanged slots [] state answer 1 ≡ stepCallBy slots state answer r (x >> y)
+  unfolding _>>_
+  no-step-second e f = rw (e, f)

@@ -5,7 +5,8 @@ use mathlib.Core.List.{List, [], _∷_}
 use native.Mathlib.Omega.{arith}
 use lib.ListN.{length, getD}
 use Rattle.rules.specs.Check.{passed, refused}
-use Rattle.rules.specs.Questions.{Method, frameCheck}
+use Rattle.rules.specs.Questions.{frameCheck}
+use Rattle.rules.specs.Step.{Machine}
 use Rattle.rules.specs.Run.{runOf}
 use Rattle.workbook.specs.StateWords.{stateIn, withState, lengthsCheck, sizesCheck}
 use Rattle.workbook.specs.Calls.{withSteps, runCall}
@@ -22,9 +23,9 @@ words-kept (a ∷ b ∷ c ∷ d ∷ e ∷ g ∷ rest) h f =
     let high : (e + g * 2 ^ 32) / 2 ^ 32 ≡ g = omega (arith, f) in
     rw (low, high)
 
-module _ (l : Method) (slots state answer : List ℕ) (budget : ℕ) (six : 6 ≤ length state) (fits : getD state 4 0 < 2 ^ 32) where
-  pub refused-run : (k : ℕ) → lengthsCheck state answer 4 ≡ passed tt → sizesCheck state ≡ passed tt → frameCheck l (stateIn state) slots ≡ refused k
-      → runCall l slots state answer budget ≡ record { number = k; slots = slots; log = []; state = state; answer = withSteps answer 0 0 0 }
+module _ (x : Machine) (slots state answer : List ℕ) (budget : ℕ) (six : 6 ≤ length state) (fits : getD state 4 0 < 2 ^ 32) where
+  pub refused-run : (k : ℕ) → lengthsCheck state answer 4 ≡ passed tt → sizesCheck state ≡ passed tt → frameCheck (x .runs) (stateIn state) (length slots) ≡ refused k
+      → runCall x slots state answer budget ≡ record { number = k; slots = slots; log = []; state = state; answer = withSteps answer 0 0 0 }
   unfolding runCall runOf
   refused-run k lengths sizes e =
       rw (lengths, sizes, e) (ap (λ (ws : List ℕ). record { number = k; slots = slots; log = []; state = ws; answer = withSteps answer 0 0 0 }) (words-kept state six fits))

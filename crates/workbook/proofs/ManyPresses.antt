@@ -8,11 +8,15 @@ use lib.ListN.{length}
 use lib.Seq.{paste}
 use borrow.Author.Tests.{le-leb, lt-leb}
 use Rattle.rules.specs.declared.State.{State}
+use Rattle.rules.specs.declared.Decision.{Decision}
+use Rattle.rules.specs.declared.Decision.the-variants as Decision
 use Rattle.rules.specs.declared.Pressed.the-variants.{Refused}
 use Rattle.rules.specs.Check.{passed, refused, _else_, _>>_}
 use Rattle.rules.specs.Questions.{Method, frameCheck}
+use Rattle.rules.specs.Step.{frame, Machine, coreMachine}
 use Rattle.rules.specs.History.{kept}
-use Rattle.rules.specs.Walk.{Press, forward, back, pressOf, walkOf}
+use Rattle.rules.specs.PlainWalk.{Press, forward, back}
+use Rattle.rules.specs.Walk.{pressOf, walkOf}
 use Rattle.rules.specs.Presses.{pressOfByte, pressesOfBytes, answersWords, Replayed, replayed, replayOf}
 use Rattle.rules.proofs.Step.{refused-by-frame}
 use Rattle.rules.proofs.History.{forward-by, back-frame, back-by}
@@ -34,43 +38,45 @@ no-room l s slots h = rw (lt-leb (s .«max_locals» + s .«max_stack») (length 
 -- ---- so every press is answered with 1, and nothing changes
 
 module _ (l : Method) (s : State) (slots : List ℕ) (no : frameCheck l s (length slots) ≡ refused 1) where
-  press-refused : (p : Press) (log : List ℕ) → pressOf l p s slots log ≡ kept s slots log (Refused 1)
+  press-refused : (p : Press) (log : List ℕ) → pressOf (coreMachine l) p s slots log ≡ kept s slots log 0 (Refused 1)
   unfolding pressOf
-  press-refused forward log = forward-by s slots log l _ (refused-by-frame l (length slots) s (frame s slots) 1 no)
+  press-refused forward log =
+      forward-by s slots log (coreMachine l) (record { decision = Decision.Refused 1; scratch = 0 })
+      (ap (λ (d : Decision). record { decision = d; scratch = 0 }) (refused-by-frame l (length slots) s (frame s slots) 1 no))
   press-refused back log = back-by l s slots log _ (back-frame l s slots log 1 no)
 
-  walk-refused : (bytes log : List ℕ) → walkOf l (pressesOfBytes bytes) s slots log ≡ record { state = s; slots = slots; log = log; answers = allRefused bytes }
+  walk-refused : (bytes log : List ℕ) → walkOf (coreMachine l) (pressesOfBytes bytes) s slots log ≡ record { state = s; slots = slots; log = log; answers = allRefused bytes }
   unfolding walkOf pressesOfBytes allRefused
   walk-refused [] log = refl
   walk-refused (b ∷ bs) log = rw (press-refused (pressOfByte b) log, walk-refused bs log)
 
-  pub list-refused : (bytes log answers : List ℕ) → 3 * length bytes ≤ length answers → (r : Replayed) → r ≡ replayOf l bytes s slots log answers
+  pub list-refused : (bytes log answers : List ℕ) → 3 * length bytes ≤ length answers → (r : Replayed) → r ≡ replayOf (coreMachine l) bytes s slots log answers
       → (r .log ≡ log) × (r .answers ≡ paste answers 0 (answersWords (allRefused bytes)) (3 * length bytes))
   list-refused bytes log answers room r e =
       let q : r ≡ record { number = 0; state = s; slots = slots; log = log; answers = paste answers 0 (answersWords (allRefused bytes)) (3 * length bytes) } =
-      e ∙ replay-made l bytes s slots log answers room ∙ ap (replayed answers (length bytes)) (walk-refused bytes log) in
+      e ∙ replay-made (coreMachine l) bytes s slots log answers room ∙ ap (replayed answers (length bytes)) (walk-refused bytes log) in
       (ap (λ (x : Replayed). x .log) q, ap (λ (x : Replayed). x .answers) q)
 
 -- ---- the call
 
-module _ (l : Method) (slots log state bytes answers : List ℕ) where
-  pub few-answers : length answers < 3 * length bytes → unchanged slots log state answers 1 ≡ pressesCall l slots log state bytes answers
+module _ (x : Machine) (slots log state bytes answers : List ℕ) where
+  pub few-answers : length answers < 3 * length bytes → unchanged slots log state answers 1 ≡ pressesCall x slots log state bytes answers
   unfolding pressesCall _else_ _>>_
   few-answers h = rw (lt-leb (3 * length bytes) (length answers) h)
 
   module _ (room : 3 * length bytes ≤ length answers) where
-    pub few-state : length state < 6 → unchanged slots log state answers 1 ≡ pressesCall l slots log state bytes answers
+    pub few-state : length state < 6 → unchanged slots log state answers 1 ≡ pressesCall x slots log state bytes answers
     unfolding pressesCall _else_ _>>_
     few-state h = rw (le-leb (3 * length bytes) (length answers) room, lt-leb 6 (length state) h)
 
     module _ (six : 6 ≤ length state) where
       pub no-state : sizesCheck state ≡ refused 1 → (log′ answers′ : List ℕ) → log′ ≡ log → answers′ ≡ paste answers 0 (answersWords (allRefused bytes)) (3 * length bytes)
-          → record { number = 0; slots = slots; log = log′; state = state; answer = answers′ } ≡ pressesCall l slots log state bytes answers
+          → record { number = 0; slots = slots; log = log′; state = state; answer = answers′ } ≡ pressesCall x slots log state bytes answers
       unfolding pressesCall _else_ _>>_
       no-state e log′ answers′ f g = rw (le-leb (3 * length bytes) (length answers) room, le-leb 6 (length state) six, e, f, g)
 
       pub list-made : sizesCheck state ≡ passed tt → (number : ℕ) (s : State) (after log′ state′ answers′ : List ℕ)
-          → record { number = number; state = s; slots = after; log = log′; answers = answers′ } ≡ replayOf l bytes (stateIn state) slots log answers → state′ ≡ withState state s
-          → record { number = 0; slots = after; log = log′; state = state′; answer = answers′ } ≡ pressesCall l slots log state bytes answers
+          → record { number = number; state = s; slots = after; log = log′; answers = answers′ } ≡ replayOf x bytes (stateIn state) slots log answers → state′ ≡ withState state s
+          → record { number = 0; slots = after; log = log′; state = state′; answer = answers′ } ≡ pressesCall x slots log state bytes answers
       unfolding pressesCall _else_ _>>_
       list-made e number s after log′ state′ answers′ r f = rw (le-leb (3 * length bytes) (length answers) room, le-leb 6 (length state) six, e, ← r, f)

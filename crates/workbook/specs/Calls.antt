@@ -14,11 +14,11 @@ use Rattle.rules.specs.declared.Load.{Load}
 use Rattle.rules.specs.declared.Load.the-variants as Load
 use Rattle.rules.specs.Check.{Check, passed, refused, _else_, _>>_, _≤ⁿ_}
 use Rattle.rules.specs.Questions.{Method}
-use Rattle.rules.specs.Step.{Stepped, stepOf}
+use Rattle.rules.specs.Step.{Machine, Stepped, stepOf}
 use Rattle.rules.specs.Run.{Ran, runOf}
-use Rattle.rules.specs.Sheet.{sheetCheck, Loaded, loadOf}
-use Rattle.rules.specs.History.{Out, forwardOf, backOf}
-use Rattle.rules.specs.Answers.{valueAnswer, endAnswer, pressedAnswer}
+use Rattle.rules.specs.Sheet.{sheetCheck, AfterLoad, loadOf}
+use Rattle.rules.specs.History.{AfterPress, forwardOf, backOf}
+use Rattle.rules.specs.Answers.{valueAnswer, decisionAnswer, endAnswer, pressedAnswer, loadAnswer}
 use Rattle.rules.specs.Presses.{answersWords, answersCheck, Replayed, replayOf}
 use Rattle.workbook.specs.StateWords.{stateIn, withState, lengthsCheck, sizesCheck}
 
@@ -48,39 +48,45 @@ answerAfter answer (Return v) = withValue answer v
 answerAfter answer Throw = answer
 answerAfter answer (Refused n) = answer
 
-abbrev pub called : List ℕ → List ℕ → Out → Called
+abbrev pub called : List ℕ → List ℕ → AfterPress → Called
 called state answer o =
     record { number = pressedAnswer (o .answer) .number; slots = o .slots; log = o .log; state = stateAfter state (o .state) (o .answer); answer = answerAfter answer (o .answer) }
 
 abbrev pub unchanged : List ℕ → List ℕ → List ℕ → List ℕ → ℕ → Called
 unchanged slots log state answer n = record { number = n; slots = slots; log = log; state = state; answer = answer }
 
--- a step is a press whose log stays
+-- a step as a press
 abbrev pub pressedBy : Decision → Pressed
 pressedBy (Decision.Ordinary u) = Granted
 pressedBy (Decision.Return v) = Return v
 pressedBy Decision.Throw = Throw
 pressedBy (Decision.Refused n) = Refused n
 
-abbrev pub stepOut : Stepped → Out
-stepOut r = record { state = r .state; answer = pressedBy (r .decision); slots = r .slots; log = [] }
-
-abbrev pub callBy : List ℕ → List ℕ → List ℕ → List ℕ → Out → Check (Unit {0}) → Called
+abbrev pub callBy : List ℕ → List ℕ → List ℕ → List ℕ → AfterPress → Check (Unit {0}) → Called
 callBy slots log state answer o (passed t) = called state answer o
 callBy slots log state answer o (refused n) = unchanged slots log state answer n
 
-unfoldable pub stepCall : Method → List ℕ → List ℕ → List ℕ → Called
-stepCall l slots state answer = callBy slots [] state answer (stepOut (stepOf l (stateIn state) slots)) (do
+abbrev pub stepped : List ℕ → List ℕ → Stepped → Called
+stepped state answer r =
+    let a = pressedBy (r .decision) in
+    record { number = decisionAnswer (r .decision) .number; slots = r .slots; log = []; state = stateAfter state (r .state) a; answer = answerAfter answer a }
+
+abbrev pub stepCallBy : List ℕ → List ℕ → List ℕ → Stepped → Check (Unit {0}) → Called
+stepCallBy slots state answer r (passed t) = stepped state answer r
+stepCallBy slots state answer r (refused n) = unchanged slots [] state answer n
+
+unfoldable pub stepCall : Machine → List ℕ → List ℕ → List ℕ → Called
+stepCall x slots state answer = stepCallBy slots state answer (stepOf x (stateIn state) slots) (do
   lengthsCheck state answer 4
   sizesCheck state)
 
-unfoldable pub forwardCall : Method → List ℕ → List ℕ → List ℕ → List ℕ → Called
-forwardCall l slots log state answer = callBy slots log state answer (forwardOf l (stateIn state) slots log) (do
+unfoldable pub forwardCall : Machine → List ℕ → List ℕ → List ℕ → List ℕ → Called
+forwardCall x slots log state answer = callBy slots log state answer (forwardOf x (stateIn state) slots log) (do
   lengthsCheck state answer 4
   sizesCheck state)
 
 -- back has no answer words
-abbrev pub backBy : List ℕ → List ℕ → List ℕ → Out → Check (Unit {0}) → Called
+abbrev pub backBy : List ℕ → List ℕ → List ℕ → AfterPress → Check (Unit {0}) → Called
 backBy slots log state o (passed t) =
     record { number = pressedAnswer (o .answer) .number; slots = o .slots; log = o .log; state = stateAfter state (o .state) (o .answer); answer = [] }
 backBy slots log state o (refused n) = unchanged slots log state [] n
@@ -110,8 +116,8 @@ abbrev pub runFor : List ℕ → List ℕ → List ℕ → Ran → Check (Unit {
 runFor slots state answer r (passed t) = runBy slots state answer r (sizesCheck state)
 runFor slots state answer r (refused n) = unchanged slots [] state answer n
 
-unfoldable pub runCall : Method → List ℕ → List ℕ → List ℕ → ℕ → Called
-runCall l slots state answer budget = runFor slots state answer (runOf l budget (stateIn state) slots) (lengthsCheck state answer 4)
+unfoldable pub runCall : Machine → List ℕ → List ℕ → List ℕ → ℕ → Called
+runCall x slots state answer budget = runFor slots state answer (runOf x budget (stateIn state) slots) (lengthsCheck state answer 4)
 
 -- ---- the list of presses
 
@@ -132,9 +138,9 @@ abbrev pub pressesFor : List ℕ → List ℕ → List ℕ → List ℕ → List
 pressesFor bytes slots log state answers r (passed t) = pressesBy bytes slots log state answers r (sizesCheck state)
 pressesFor bytes slots log state answers r (refused n) = unchanged slots log state answers n
 
-unfoldable pub pressesCall : Method → List ℕ → List ℕ → List ℕ → List ℕ → List ℕ → Called
-pressesCall l slots log state bytes answers =
-    pressesFor bytes slots log state answers (replayOf l bytes (stateIn state) slots log answers) (do
+unfoldable pub pressesCall : Machine → List ℕ → List ℕ → List ℕ → List ℕ → List ℕ → Called
+pressesCall x slots log state bytes answers =
+    pressesFor bytes slots log state answers (replayOf x bytes (stateIn state) slots log answers) (do
       answersCheck (length bytes) (length answers)
       6 ≤ⁿ length state else 1)
 
@@ -148,11 +154,19 @@ pub record LoadCalled : Type 0 where
   pub state : List ℕ
   pub answer : List ℕ
 
--- an accepted load hands back where the code begins and how long it is
-abbrev pub loadBy : List ℕ → List ℕ → Loaded → Load → LoadCalled
-loadBy state answer m (Load.Accepted s at n) =
-    record { number = 0; slots = m .slots; kinds = m .kinds; words = m .words; state = withState state s; answer = paste answer 0 (at ∷ n ∷ []) 2 }
-loadBy state answer m (Load.Refused k) = record { number = k; slots = m .slots; kinds = m .kinds; words = m .words; state = state; answer = answer }
+-- an accepted load writes the state, and where the code begins and how long it is
+abbrev pub loadBy : List ℕ → List ℕ → AfterLoad → Load → LoadCalled
+loadBy state answer m Load.Accepted =
+    record {
+      number = loadAnswer Load.Accepted .number;
+      slots = m .slots;
+      kinds = m .kinds;
+      words = m .words;
+      state = withState state (m .loaded .state);
+      answer = paste answer 0 (m .loaded .code ∷ m .loaded .«code_length» ∷ []) 2;
+    }
+loadBy state answer m (Load.Refused k) =
+    record { number = loadAnswer (Load.Refused k) .number; slots = m .slots; kinds = m .kinds; words = m .words; state = state; answer = answer }
 
 -- too few state or answer words belong to question 26: the sheet's own numbers come first
 abbrev pub shortNumber : Check Reading → ℕ
@@ -160,7 +174,7 @@ shortNumber (passed p) = 26
 shortNumber (refused n) = n
 
 abbrev pub loadFor : List ℕ → List ℕ → List ℕ → List ℕ → List ℕ → List ℕ → Check (Unit {0}) → LoadCalled
-loadFor sheet slots kinds words state answer (passed t) = let m = loadOf sheet slots kinds words in loadBy state answer m (m .load)
+loadFor sheet slots kinds words state answer (passed t) = let m = loadOf sheet slots kinds words in loadBy state answer m (m .loaded .answer)
 loadFor sheet slots kinds words state answer (refused n) =
     record { number = shortNumber (sheetCheck sheet); slots = slots; kinds = kinds; words = words; state = state; answer = answer }
 

@@ -1,2 +1,3 @@
 pub mod StateWords
 pub mod Calls
+pub mod Demand3

@@ -1,4 +1,5 @@
 // The load.
+use crate::state_words::ANSWER_WORDS;
 use crate::state_words::are_lent;
 use crate::state_words::write_state;
 use frame::write_words;
@@ -13,6 +14,7 @@ ghost use lib.ListN.{length};
 ghost use lib.Seq.{paste};
 ghost use Rattle.rules.specs.Sheet.{sheetCheck};
 ghost use Rattle.workbook.specs.Calls.{shortNumber, loadCall};
+ghost use Rattle.workbook.specs.Demand3.{FromThisLoad};
 
 // The number of a load with too few state or answer words: the sheet's own, or else question 26's.
 fn short_number(sheet: &[u8]) -> u32
@@ -45,20 +47,18 @@ pub extern "C" fn workbook_load(
     answer: &mut [u32],
 ) -> u32
     ensures { λ r. ⌜ record { number = r; slots = now (slots .exit); kinds = now (kinds .exit); words = now (words .exit); state = now (state .exit); answer = now (answer .exit) } ≡ loadCall (now (sheet .entry)) (now (slots .entry)) (now (kinds .entry)) (now (words .entry)) (now (state .entry)) (now (answer .entry)) ⌝ }
+    ensures { λ r. ⌜ FromThisLoad (now (sheet .entry)) (record { number = r; slots = now (slots .exit); kinds = now (kinds .exit); words = now (words .exit); state = now (state .exit); answer = now (answer .exit) }) ⌝ }
 {
-    if !are_lent(state, answer, 4) {
+    if !are_lent(state, answer, ANSWER_WORDS) {
         return short_number(sheet);
     }
     let loaded = load(sheet, slots, kinds, words);
-    match loaded {
+    let accepted = loaded.answer;
+    match accepted {
         Load::Refused(n) => n,
-        Load::Accepted {
-            state: s,
-            code,
-            code_length,
-        } => {
-            write_state(state, s);
-            write_code(answer, code as u32, code_length as u32);
+        Load::Accepted => {
+            write_state(state, loaded.state);
+            write_code(answer, loaded.code as u32, loaded.code_length as u32);
             0
         }
     }

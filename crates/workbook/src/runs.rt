@@ -1,6 +1,7 @@
 // The run.
 use crate::leaving::end_answer;
 use crate::leaving::write_steps;
+use crate::state_words::ANSWER_WORDS;
 use crate::state_words::are_lent;
 use crate::state_words::read_state;
 use crate::state_words::sizes_fit;
@@ -8,7 +9,7 @@ use crate::state_words::write_state;
 use interpreter::run;
 ghost use mathlib.Core.Path.{_≡_};
 ghost use mathlib.Core.List.{[]};
-ghost use Rattle.rules.specs.Questions.{method};
+ghost use Rattle.rules.specs.Step.{machine};
 ghost use Rattle.workbook.specs.Calls.{runCall};
 
 // A run. One that is refused by questions 1 to 3 leaves the state as it was.
@@ -22,9 +23,9 @@ pub extern "C" fn workbook_run(
     answer: &mut [u32],
     budget: u64,
 ) -> u32
-    ensures { λ r. ⌜ record { number = r; slots = now (slots .exit); log = []; state = now (state .exit); answer = now (answer .exit) } ≡ runCall (method (now (code .entry)) (now (kinds .entry)) (now (words .entry))) (now (slots .entry)) (now (state .entry)) (now (answer .entry)) budget ⌝ }
+    ensures { λ r. ⌜ record { number = r; slots = now (slots .exit); log = []; state = now (state .exit); answer = now (answer .exit) } ≡ runCall (machine (now (code .entry)) (now (kinds .entry)) (now (words .entry))) (now (slots .entry)) (now (state .entry)) (now (answer .entry)) budget ⌝ }
 {
-    if !are_lent(state, answer, 4) {
+    if !are_lent(state, answer, ANSWER_WORDS) {
         return 1;
     }
     if !sizes_fit(state) {

@@ -10,11 +10,16 @@ ghost use lib.ListN.{length, getD};
 ghost use Rattle.rules.specs.Check.{isPassed};
 ghost use Rattle.workbook.specs.StateWords.{stateIn, withState, lengthsCheck, sizesCheck};
 
+// How many words a state has, and an answer.
+pub(crate) const STATE_WORDS: usize = 6;
+
+pub(crate) const ANSWER_WORDS: usize = 4;
+
 // Whether there are six state words and some answer words.
 pub(crate) fn are_lent(state: &[u32], answer: &[u32], n: usize) -> bool
     ensures { λ r. ⌜ r ≡ isPassed (lengthsCheck (now (state .entry)) (now (answer .entry)) n) ⌝ }
 {
-    if state.len() < 6 {
+    if state.len() < STATE_WORDS {
         return false;
     }
     n <= answer.len()
@@ -59,5 +64,5 @@ pub(crate) fn write_state(state: &mut [u32], s: State)
         low_word(s.count),
         high_word(s.count),
     ];
-    write_words(state, 0, &words, 6);
+    write_words(state, 0, &words, STATE_WORDS);
 }

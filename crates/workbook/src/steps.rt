@@ -2,6 +2,8 @@
 use crate::leaving::leave;
 use crate::leaving::leave_value;
 use crate::leaving::pressed_by;
+use crate::state_words::ANSWER_WORDS;
+use crate::state_words::STATE_WORDS;
 use crate::state_words::are_lent;
 use crate::state_words::read_state;
 use crate::state_words::sizes_fit;
@@ -11,6 +13,7 @@ use interpreter::step;
 ghost use mathlib.Core.Path.{_≡_};
 ghost use mathlib.Core.List.{[]};
 ghost use Rattle.rules.specs.Questions.{method};
+ghost use Rattle.rules.specs.Step.{machine};
 ghost use Rattle.workbook.specs.Calls.{stepCall, forwardCall, backCall};
 
 // A step without history.
@@ -23,9 +26,9 @@ pub extern "C" fn workbook_step(
     state: &mut [u32],
     answer: &mut [u32],
 ) -> u32
-    ensures { λ r. ⌜ record { number = r; slots = now (slots .exit); log = []; state = now (state .exit); answer = now (answer .exit) } ≡ stepCall (method (now (code .entry)) (now (kinds .entry)) (now (words .entry))) (now (slots .entry)) (now (state .entry)) (now (answer .entry)) ⌝ }
+    ensures { λ r. ⌜ record { number = r; slots = now (slots .exit); log = []; state = now (state .exit); answer = now (answer .exit) } ≡ stepCall (machine (now (code .entry)) (now (kinds .entry)) (now (words .entry))) (now (slots .entry)) (now (state .entry)) (now (answer .entry)) ⌝ }
 {
-    if !are_lent(state, answer, 4) {
+    if !are_lent(state, answer, ANSWER_WORDS) {
         return 1;
     }
     if !sizes_fit(state) {
@@ -49,9 +52,9 @@ pub extern "C" fn workbook_forward(
     state: &mut [u32],
     answer: &mut [u32],
 ) -> u32
-    ensures { λ r. ⌜ record { number = r; slots = now (slots .exit); log = now (log .exit); state = now (state .exit); answer = now (answer .exit) } ≡ forwardCall (method (now (code .entry)) (now (kinds .entry)) (now (words .entry))) (now (slots .entry)) (now (log .entry)) (now (state .entry)) (now (answer .entry)) ⌝ }
+    ensures { λ r. ⌜ record { number = r; slots = now (slots .exit); log = now (log .exit); state = now (state .exit); answer = now (answer .exit) } ≡ forwardCall (machine (now (code .entry)) (now (kinds .entry)) (now (words .entry))) (now (slots .entry)) (now (log .entry)) (now (state .entry)) (now (answer .entry)) ⌝ }
 {
-    if !are_lent(state, answer, 4) {
+    if !are_lent(state, answer, ANSWER_WORDS) {
         return 1;
     }
     if !sizes_fit(state) {
@@ -75,7 +78,7 @@ pub extern "C" fn workbook_back(
 ) -> u32
     ensures { λ r. ⌜ record { number = r; slots = now (slots .exit); log = now (log .entry); state = now (state .exit); answer = [] } ≡ backCall (method (now (code .entry)) (now (kinds .entry)) (now (words .entry))) (now (slots .entry)) (now (log .entry)) (now (state .entry)) ⌝ }
 {
-    if state.len() < 6 {
+    if state.len() < STATE_WORDS {
         return 1;
     }
     if !sizes_fit(state) {

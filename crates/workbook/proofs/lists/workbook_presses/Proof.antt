@@ -2,11 +2,13 @@
 use native.Mathlib.Omega.{arith}
 use denote.Ref.{now}
 use Rattle.rules.specs.Questions.{method}
+use Rattle.rules.specs.Step.{coreMachine}
 use mathlib.Core.Path.{sym, _∙_}
 use borrow.Author.Tests.{not-true, not-false}
 use Rattle.rules.proofs.Check.{is-passed}
 use Rattle.workbook.proofs.Checks.{sizes-no, sizes-yes}
 use Rattle.workbook.proofs.ManyPresses.{few-answers, few-state, no-state, list-made}
+use Rattle.workbook.proofs.Demand3.{list-promised}
 use borrow.Author.Needs.{needs}
 use Rattle.workbook.proofs.lists.workbook_presses.Statement.{statement}
 use Rattle.workbook.proofs.lists.workbook_presses.Tie as tie
@@ -15,13 +17,15 @@ returns : tie.Need-returns
 returns c =
     let a = c .before .before .before .before .before .before .before .before .before .args in
     let l = method (now (a .code)) (now (a .kinds)) (now (a .words)) in
-    few-answers l (now (a .slots)) (now (a .log)) (now (a .state)) (now (a .bytes)) (now (a .answers)) (omega (arith, c .if1 .taken))
+    list-promised l (now (a .slots)) (now (a .log)) (now (a .state)) (now (a .bytes)) (now (a .answers)) _
+    (few-answers (coreMachine l) (now (a .slots)) (now (a .log)) (now (a .state)) (now (a .bytes)) (now (a .answers)) (omega (arith, c .if1 .taken)))
 
 returns-2 : tie.Need-returns-2
 returns-2 c =
     let a = c .before .before .before .before .before .before .before .before .before .before .args in
     let l = method (now (a .code)) (now (a .kinds)) (now (a .words)) in
-    few-state l (now (a .slots)) (now (a .log)) (now (a .state)) (now (a .bytes)) (now (a .answers)) (omega (arith, c .before .if1 .left)) (c .if2 .taken)
+    list-promised l (now (a .slots)) (now (a .log)) (now (a .state)) (now (a .bytes)) (now (a .answers)) _
+    (few-state (coreMachine l) (now (a .slots)) (now (a .log)) (now (a .state)) (now (a .bytes)) (now (a .answers)) (omega (arith, c .before .if1 .left)) (c .if2 .taken))
 
 sizes-fit-requires : tie.Need-sizes-fit-requires
 sizes-fit-requires c κs = search needs
@@ -42,7 +46,8 @@ returns-3 : tie.Need-returns-3
 returns-3 c =
     let a = c .before .before .before .before .before .before .before .before .before .before .before .before .before .before .before .before .before .before .before .before .args in
     let l = method (now (a .code)) (now (a .kinds)) (now (a .words)) in
-    no-state l (now (a .slots)) (now (a .log)) (now (a .state)) (now (a .bytes)) (now (a .answers)) (omega (arith, c .before .before .before .before .before .before .before .before .before .before .before .if1 .left)) (c .before .before .before .before .before .before .before .before .before .before .if2 .left) (sizes-no _ (sym (c .before .before .before .before .before .before .before .before .sizes-fit .ensures) ∙ not-true _ (c .before .before .before .before .before .before .before .if3 .taken))) _ _ (c .before .before .before .before .refuse-presses .ensures .0) (c .before .before .before .before .refuse-presses .ensures .1)
+    list-promised l (now (a .slots)) (now (a .log)) (now (a .state)) (now (a .bytes)) (now (a .answers)) _
+    (no-state (coreMachine l) (now (a .slots)) (now (a .log)) (now (a .state)) (now (a .bytes)) (now (a .answers)) (omega (arith, c .before .before .before .before .before .before .before .before .before .before .before .if1 .left)) (c .before .before .before .before .before .before .before .before .before .before .if2 .left) (sizes-no _ (sym (c .before .before .before .before .before .before .before .before .sizes-fit .ensures) ∙ not-true _ (c .before .before .before .before .before .before .before .if3 .taken))) _ _ (c .before .before .before .before .refuse-presses .ensures .0) (c .before .before .before .before .refuse-presses .ensures .1))
 
 read-state-requires : tie.Need-read-state-requires
 read-state-requires c κs = (c .before .before .before .before .if2 .left, sizes-yes (now (c .before .before .before .before .before .before .before .before .before .before .before .before .before .before .args .state)) (sym (c .before .before .sizes-fit .ensures) ∙ not-false _ (c .before .if3 .left)))
@@ -69,7 +74,8 @@ returns-4 : tie.Need-returns-4
 returns-4 c =
     let a = c .before .before .before .before .before .before .before .before .before .before .before .before .before .before .before .before .before .before .before .before .before .before .before .before .before .before .before .before .before .args in
     let l = method (now (a .code)) (now (a .kinds)) (now (a .words)) in
-    list-made l (now (a .slots)) (now (a .log)) (now (a .state)) (now (a .bytes)) (now (a .answers)) (omega (arith, c .before .before .before .before .before .before .before .before .before .before .before .before .before .before .before .before .before .before .before .before .if1 .left)) (c .before .before .before .before .before .before .before .before .before .before .before .before .before .before .before .before .before .before .before .if2 .left) (is-passed _ (sym (c .before .before .before .before .before .before .before .before .before .before .before .before .before .before .before .before .before .sizes-fit .ensures) ∙ not-false _ (c .before .before .before .before .before .before .before .before .before .before .before .before .before .before .before .before .if3 .left))) _ _ _ _ _ _ (rw (c .before .before .before .before .before .before .before .before .before .before .before .before .before .before .read-state .ensures) at (c .before .before .before .before .before .before .before .before .before .before .presses .ensures .0)) (c .before .before .write-state .ensures)
+    list-promised l (now (a .slots)) (now (a .log)) (now (a .state)) (now (a .bytes)) (now (a .answers)) _
+    (list-made (coreMachine l) (now (a .slots)) (now (a .log)) (now (a .state)) (now (a .bytes)) (now (a .answers)) (omega (arith, c .before .before .before .before .before .before .before .before .before .before .before .before .before .before .before .before .before .before .before .before .if1 .left)) (c .before .before .before .before .before .before .before .before .before .before .before .before .before .before .before .before .before .before .before .if2 .left) (is-passed _ (sym (c .before .before .before .before .before .before .before .before .before .before .before .before .before .before .before .before .before .sizes-fit .ensures) ∙ not-false _ (c .before .before .before .before .before .before .before .before .before .before .before .before .before .before .before .before .if3 .left))) _ _ _ _ _ _ (rw (c .before .before .before .before .before .before .before .before .before .before .before .before .before .before .read-state .ensures) at (c .before .before .before .before .before .before .before .before .before .before .presses .ensures .0)) (c .before .before .write-state .ensures))
 
 pub workbook-presses-spec : {M : Type 1} → statement M
 workbook-presses-spec =

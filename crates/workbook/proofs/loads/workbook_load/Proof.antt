@@ -1,13 +1,14 @@
 -- `workbook_load` meets its contract. Assumes nothing.
-use native.Mathlib.Omega.{arith}
-use denote.Ref.{now}
+use Prim.Native.Nat.{_≤_}
 use mathlib.Core.Path.{sym, _∙_}
+use native.Mathlib.Omega.{arith}
+use lib.ListN.{length}
+use denote.Ref.{now}
 use borrow.Author.Tests.{not-true, not-false}
 use Rattle.rules.proofs.Check.{is-passed}
-use Prim.Native.Nat.{_≤_}
-use lib.ListN.{length}
 use Rattle.workbook.proofs.Checks.{lengths-no, lengths-yes}
 use Rattle.workbook.proofs.LoadedWords.{code-lies, load-short, load-refused, load-accepted}
+use Rattle.workbook.proofs.Demand3.{load-promised}
 use borrow.Author.Needs.{needs}
 use Rattle.workbook.proofs.loads.workbook_load.Statement.{statement}
 use Rattle.workbook.proofs.loads.workbook_load.Tie as tie
@@ -27,37 +28,37 @@ same-length-2 c = search needs
 returns : tie.Need-returns
 returns c =
     let a = c .before .before .before .before .before .before .before .before .before .before .before .args in
-    load-short (now (a .sheet)) (now (a .slots)) (now (a .kinds)) (now (a .words)) (now (a .state)) (now (a .answer)) (lengths-no _ _ 4 (sym (c .before .before .are-lent .ensures) ∙ not-true _ (c .before .if1 .taken))) _ (c .short-number .ensures)
+    load-promised (now (a .sheet)) (now (a .slots)) (now (a .kinds)) (now (a .words)) (now (a .state)) (now (a .answer)) (λ i. c .before .before .before .before .before .before .before .before .before .before .shared-slice-known .given i .fits) _
+    (load-short (now (a .sheet)) (now (a .slots)) (now (a .kinds)) (now (a .words)) (now (a .state)) (now (a .answer)) (lengths-no _ _ 4 (sym (c .before .before .are-lent .ensures) ∙ not-true _ (c .before .if1 .taken))) _ (c .short-number .ensures))
 
 load-requires : tie.Need-load-requires
 load-requires c κs = search needs
 
-enum-known-loaded : tie.Need-enum-known-loaded
-enum-known-loaded c = search needs
+enum-known-accepted : tie.Need-enum-known-accepted
+enum-known-accepted c = search needs
 
-enum-known-loaded-2 : tie.Need-enum-known-loaded-2
-enum-known-loaded-2 c = search needs
+enum-told : tie.Need-enum-told
+enum-told c = search needs
 
 write-state-requires : tie.Need-write-state-requires
-write-state-requires c κs = (lengths-yes (now (c .before .before .before .before .before .before .before .before .before .before .before .before .before .before .before .before .before .before .before .before .before .before .before .before .args .state)) (now (c .before .before .before .before .before .before .before .before .before .before .before .before .before .before .before .before .before .before .before .before .before .before .before .before .args .answer)) 4 (sym (c .before .before .before .before .before .before .before .before .before .before .before .before .before .before .before .are-lent .ensures) ∙ not-false _ (c .before .before .before .before .before .before .before .before .before .before .before .before .before .before .if1 .left))) .0
+write-state-requires c κs = (lengths-yes (now (c .before .before .before .before .before .before .before .before .before .before .before .before .before .before .before .before .before .before .before .before .before .before .before .args .state)) (now (c .before .before .before .before .before .before .before .before .before .before .before .before .before .before .before .before .before .before .before .before .before .before .before .args .answer)) 4 (sym (c .before .before .before .before .before .before .before .before .before .before .before .before .before .before .are-lent .ensures) ∙ not-false _ (c .before .before .before .before .before .before .before .before .before .before .before .before .before .if1 .left))) .0
 
 cast-write-code : tie.Need-cast-write-code
 cast-write-code c =
     let a = c .before .before .before .before .before .before .before .before .before .before .before .before .before .before .before .before .before .before .before .before .before .before .before .before .before .before .before .before .args in
-    let h = code-lies (now (a .sheet)) (now (a .slots)) (now (a .kinds)) (now (a .words)) (λ i. c .before .before .before .before .before .before .before .before .before .before .before .before .before .before .before .before .before .before .before .before .before .before .before .before .before .before .before .shared-slice-known .given i .fits) _ _ _ _ (c .before .before .before .before .before .before .before .before .before .before .before .before .before .before .load .ensures) _ _ _ (c .before .before .before .before .before .before .loaded2 .given .1) in
-    omega (arith, h .0)
+    let k = code-lies (now (a .sheet)) (now (a .slots)) (now (a .kinds)) (now (a .words)) (λ i. c .before .before .before .before .before .before .before .before .before .before .before .before .before .before .before .before .before .before .before .before .before .before .before .before .before .before .before .shared-slice-known .given i .fits) _ _ _ _ (c .before .before .before .before .before .before .before .before .before .before .before .before .before .before .load .ensures) (c .before .before .before .before .before .before .enum-told .given .1) in
+    omega (arith, k .0)
 
 cast-write-code-2 : tie.Need-cast-write-code-2
 cast-write-code-2 c =
-    let a = c .before .before .before .before .before .before .before .before .before .before .before .before .before .before .before .before .before .before .before .before .before .before .before .before .before .before .before .before .args in
-    let h = code-lies (now (a .sheet)) (now (a .slots)) (now (a .kinds)) (now (a .words)) (λ i. c .before .before .before .before .before .before .before .before .before .before .before .before .before .before .before .before .before .before .before .before .before .before .before .before .before .before .before .shared-slice-known .given i .fits) _ _ _ _ (c .before .before .before .before .before .before .before .before .before .before .before .before .before .before .load .ensures) _ _ _ (c .before .before .before .before .before .before .loaded2 .given .1) in
-    omega (arith, h .1)
+    let a = c .before .before .before .before .before .before .before .before .before .before .before .before .before .before .before .before .before .before .before .before .before .before .before .before .before .before .before .before .before .args in
+    let k = code-lies (now (a .sheet)) (now (a .slots)) (now (a .kinds)) (now (a .words)) (λ i. c .before .before .before .before .before .before .before .before .before .before .before .before .before .before .before .before .before .before .before .before .before .before .before .before .before .before .before .before .shared-slice-known .given i .fits) _ _ _ _ (c .before .before .before .before .before .before .before .before .before .before .before .before .before .before .before .load .ensures) (c .before .before .before .before .before .before .before .enum-told .given .1) in
+    omega (arith, k .1)
 
 write-code-requires : tie.Need-write-code-requires
 write-code-requires c κs =
-    let a = c .before .before .before .before .before .before .before .before .before .before .before .before .before .before .before .before .before .before .before .before .before .before .before .before .before .before .before .before .args in
-    let h = lengths-yes (now (c .before .before .before .before .before .before .before .before .before .before .before .before .before .before .before .before .before .before .before .before .before .before .before .before .before .before .before .before .args .state)) (now (c .before .before .before .before .before .before .before .before .before .before .before .before .before .before .before .before .before .before .before .before .before .before .before .before .before .before .before .before .args .answer)) 4 (sym (c .before .before .before .before .before .before .before .before .before .before .before .before .before .before .before .before .before .before .before .are-lent .ensures) ∙ not-false _ (c .before .before .before .before .before .before .before .before .before .before .before .before .before .before .before .before .before .before .if1 .left)) in
-    let two : 2 ≤ length (now (a .answer)) = omega (arith, h .1) in
+    let h = lengths-yes (now (c .before .before .before .before .before .before .before .before .before .before .before .before .before .before .before .before .before .before .before .before .before .before .before .before .before .before .before .before .before .args .state)) (now (c .before .before .before .before .before .before .before .before .before .before .before .before .before .before .before .before .before .before .before .before .before .before .before .before .before .before .before .before .before .args .answer)) 4 (sym (c .before .before .before .before .before .before .before .before .before .before .before .before .before .before .before .before .before .before .before .before .are-lent .ensures) ∙ not-false _ (c .before .before .before .before .before .before .before .before .before .before .before .before .before .before .before .before .before .before .before .if1 .left)) in
+    let two : 2 ≤ length (now (c .before .before .before .before .before .before .before .before .before .before .before .before .before .before .before .before .before .before .before .before .before .before .before .before .before .before .before .before .before .args .answer)) = omega (arith, h .1) in
     two
 
 same-length-3 : tie.Need-same-length-3
@@ -78,7 +79,8 @@ same-length-7 c = search needs
 returns-2 : tie.Need-returns-2
 returns-2 c =
     let a = c .before .before .before .before .before .before .before .before .before .before .before .before .before .before .before .before .before .before .before .before .before .before .before .args in
-    load-refused (now (a .sheet)) (now (a .slots)) (now (a .kinds)) (now (a .words)) (now (a .state)) (now (a .answer)) (is-passed _ (sym (c .before .before .before .before .before .before .before .before .before .before .before .before .before .before .are-lent .ensures) ∙ not-false _ (c .before .before .before .before .before .before .before .before .before .before .before .before .before .if1 .left))) _ _ _ _ (c .before .before .before .before .before .before .before .before .before .load .ensures) _ (c .before .loaded .given .1)
+    load-promised (now (a .sheet)) (now (a .slots)) (now (a .kinds)) (now (a .words)) (now (a .state)) (now (a .answer)) (λ i. c .before .before .before .before .before .before .before .before .before .before .before .before .before .before .before .before .before .before .before .before .before .before .shared-slice-known .given i .fits) _
+    (load-refused (now (a .sheet)) (now (a .slots)) (now (a .kinds)) (now (a .words)) (now (a .state)) (now (a .answer)) (is-passed _ (sym (c .before .before .before .before .before .before .before .before .before .before .before .before .before .before .are-lent .ensures) ∙ not-false _ (c .before .before .before .before .before .before .before .before .before .before .before .before .before .if1 .left))) _ _ _ _ (c .before .before .before .before .before .before .before .before .before .load .ensures) _ (c .before .accepted .given .1))
 
 same-length-8 : tie.Need-same-length-8
 same-length-8 c = search needs
@@ -97,8 +99,9 @@ same-length-12 c = search needs
 
 returns-3 : tie.Need-returns-3
 returns-3 c =
-    let a = c .before .before .before .before .before .before .before .before .before .before .before .before .before .before .before .before .before .before .before .before .before .before .before .before .before .before .before .before .before .before .before .args in
-    load-accepted (now (a .sheet)) (now (a .slots)) (now (a .kinds)) (now (a .words)) (now (a .state)) (now (a .answer)) (is-passed _ (sym (c .before .before .before .before .before .before .before .before .before .before .before .before .before .before .before .before .before .before .before .before .before .before .are-lent .ensures) ∙ not-false _ (c .before .before .before .before .before .before .before .before .before .before .before .before .before .before .before .before .before .before .before .before .before .if1 .left))) _ _ _ _ (c .before .before .before .before .before .before .before .before .before .before .before .before .before .before .before .before .before .load .ensures) _ _ _ (c .before .before .before .before .before .before .before .before .before .loaded2 .given .1) _ _ (c .before .before .before .before .before .before .write-state .ensures) (c .before .before .write-code .ensures)
+    let a = c .before .before .before .before .before .before .before .before .before .before .before .before .before .before .before .before .before .before .before .before .before .before .before .before .before .before .before .before .before .before .before .before .args in
+    load-promised (now (a .sheet)) (now (a .slots)) (now (a .kinds)) (now (a .words)) (now (a .state)) (now (a .answer)) (λ i. c .before .before .before .before .before .before .before .before .before .before .before .before .before .before .before .before .before .before .before .before .before .before .before .before .before .before .before .before .before .before .before .shared-slice-known .given i .fits) _
+    (load-accepted (now (a .sheet)) (now (a .slots)) (now (a .kinds)) (now (a .words)) (now (a .state)) (now (a .answer)) (is-passed _ (sym (c .before .before .before .before .before .before .before .before .before .before .before .before .before .before .before .before .before .before .before .before .before .before .before .are-lent .ensures) ∙ not-false _ (c .before .before .before .before .before .before .before .before .before .before .before .before .before .before .before .before .before .before .before .before .before .before .if1 .left))) _ _ _ _ (c .before .before .before .before .before .before .before .before .before .before .before .before .before .before .before .before .before .before .load .ensures) (c .before .before .before .before .before .before .before .before .before .before .enum-told .given .1) _ _ (c .before .before .before .before .before .before .before .before .write-state .ensures) (c .before .before .write-code .ensures))
 
 pub workbook-load-spec : {M : Type 1} → statement M
 workbook-load-spec =
@@ -110,8 +113,8 @@ workbook-load-spec =
     same-length-2
     returns
     load-requires
-    enum-known-loaded
-    enum-known-loaded-2
+    enum-known-accepted
+    enum-told
     write-state-requires
     cast-write-code
     cast-write-code-2

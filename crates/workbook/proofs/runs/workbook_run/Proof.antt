@@ -3,7 +3,7 @@ use denote.Ref.{now}
 use mathlib.Core.Path.{sym, _∙_}
 use borrow.Author.Tests.{not-true, not-false}
 use Rattle.rules.proofs.Check.{is-passed}
-use Rattle.rules.specs.Questions.{method}
+use Rattle.rules.specs.Step.{machine}
 use Rattle.workbook.proofs.Checks.{lengths-no, lengths-yes, sizes-no, sizes-yes}
 use Rattle.workbook.proofs.Made.{run-short, run-sizes, run-made}
 use borrow.Author.Needs.{needs}
@@ -22,7 +22,7 @@ same-length-2 c = search needs
 returns : tie.Need-returns
 returns c =
     let a = c .before .before .before .before .before .before .before .before .before .before .args in
-    let l = method (now (a .code)) (now (a .kinds)) (now (a .words)) in
+    let l = machine (now (a .code)) (now (a .kinds)) (now (a .words)) in
     run-short l (now (a .slots)) (now (a .state)) (now (a .answer)) (a .budget) (lengths-no _ _ 4 (sym (c .before .are-lent .ensures) ∙ not-true _ (c .if1 .taken)))
 
 sizes-fit-requires : tie.Need-sizes-fit-requires
@@ -40,7 +40,7 @@ same-length-4 c = search needs
 returns-2 : tie.Need-returns-2
 returns-2 c =
     let a = c .before .before .before .before .before .before .before .before .before .before .before .before .before .before .before .before .before .args in
-    let l = method (now (a .code)) (now (a .kinds)) (now (a .words)) in
+    let l = machine (now (a .code)) (now (a .kinds)) (now (a .words)) in
     run-sizes l (now (a .slots)) (now (a .state)) (now (a .answer)) (a .budget) (is-passed _ (sym (c .before .before .before .before .before .before .before .before .are-lent .ensures) ∙ not-false _ (c .before .before .before .before .before .before .before .if1 .left))) (sizes-no _ (sym (c .before .before .before .before .before .sizes-fit .ensures) ∙ not-true _ (c .before .before .before .before .if2 .taken))) _ (c .before .before .write-steps .ensures)
 
 read-state-requires : tie.Need-read-state-requires
@@ -70,7 +70,7 @@ same-length-7 c = search needs
 returns-3 : tie.Need-returns-3
 returns-3 c =
     let a = c .before .before .before .before .before .before .before .before .before .before .before .before .before .before .before .before .before .before .before .before .before .before .before .before .before .before .before .before .args in
-    let l = method (now (a .code)) (now (a .kinds)) (now (a .words)) in
+    let l = machine (now (a .code)) (now (a .kinds)) (now (a .words)) in
     run-made l (now (a .slots)) (now (a .state)) (now (a .answer)) (a .budget) (is-passed _ (sym (c .before .before .before .before .before .before .before .before .before .before .before .before .before .before .before .before .before .before .before .are-lent .ensures) ∙ not-false _ (c .before .before .before .before .before .before .before .before .before .before .before .before .before .before .before .before .before .before .if1 .left))) (is-passed _ (sym (c .before .before .before .before .before .before .before .before .before .before .before .before .before .before .before .before .sizes-fit .ensures) ∙ not-false _ (c .before .before .before .before .before .before .before .before .before .before .before .before .before .before .before .if2 .left))) _ _ _ _ _ _ (c .before .before .before .before .before .before .before .before .end-answer .result) (rw (c .before .before .before .before .before .before .before .before .before .before .before .before .read-state .ensures) at (c .before .before .before .before .before .before .before .before .before .before .before .run .ensures .0)) (c .before .before .before .before .before .before .before .before .end-answer .ensures) (c .before .before .before .before .before .before .write-state .ensures) (c .before .before .write-steps2 .ensures)
 
 pub workbook-run-spec : {M : Type 1} → statement M

@@ -4,6 +4,7 @@ use mathlib.Core.Path.{sym, _∙_}
 use borrow.Author.Tests.{not-true, not-false}
 use Rattle.rules.proofs.Check.{is-passed}
 use Rattle.rules.specs.Questions.{method}
+use Rattle.rules.specs.Step.{coreMachine}
 use mathlib.Core.List.{[]}
 use Rattle.workbook.proofs.Checks.{sizes-no, sizes-yes}
 use Rattle.workbook.proofs.Made.{back-made, back-short, back-sizes}
@@ -48,7 +49,7 @@ returns-3 : tie.Need-returns-3
 returns-3 c =
     let a = c .before .before .before .before .before .before .before .before .before .before .before .before .before .before .before .before .before .before .before .before .args in
     let l = method (now (a .code)) (now (a .kinds)) (now (a .words)) in
-    back-made l (now (a .slots)) (now (a .log)) (now (a .state)) [] (is-passed _ (sym (c .before .before .before .before .before .before .before .before .before .before .before .sizes-fit .ensures) ∙ not-false _ (c .before .before .before .before .before .before .before .before .before .before .if2 .left))) _ _ _ _ (now (a .log)) _ [] (c .before .before .leave .ensures .0) (c .before .before .leave .ensures .1) (c .before .before .before .before .before .before .before .before .before .before .before .before .before .if1 .left) (rw (c .before .before .before .before .before .before .before .read-state .ensures) at (c .before .before .before .before .before .before .back .ensures))
+    back-made (coreMachine l) (now (a .slots)) (now (a .log)) (now (a .state)) [] (is-passed _ (sym (c .before .before .before .before .before .before .before .before .before .before .before .sizes-fit .ensures) ∙ not-false _ (c .before .before .before .before .before .before .before .before .before .before .if2 .left))) _ _ _ _ (now (a .log)) _ [] (c .before .before .leave .ensures .0) (c .before .before .leave .ensures .1) (c .before .before .before .before .before .before .before .before .before .before .before .before .before .if1 .left) (rw (c .before .before .before .before .before .before .before .read-state .ensures) at (c .before .before .before .before .before .before .back .ensures))
 
 pub workbook-back-spec : {M : Type 1} → statement M
 workbook-back-spec =

@@ -4,7 +4,7 @@ use native.Mathlib.Omega.{arith}
 use mathlib.Core.Path.{sym, _∙_}
 use borrow.Author.Tests.{not-true, not-false}
 use Rattle.rules.proofs.Check.{is-passed}
-use Rattle.rules.specs.Questions.{method}
+use Rattle.rules.specs.Step.{machine}
 use Prim.Native.Nat.{_≤_}
 use lib.ListN.{length}
 use Rattle.workbook.proofs.Checks.{lengths-no, lengths-yes, sizes-no, sizes-yes, first-no, second-no}
@@ -70,7 +70,7 @@ same-length-8 c = search needs
 returns-3 : tie.Need-returns-3
 returns-3 c =
     let a = c .before .before .before .before .before .before .before .before .before .before .before .before .before .before .before .before .before .before .before .before .before .before .before .before .before .before .before .before .before .before .before .args in
-    let l = method (now (a .code)) (now (a .kinds)) (now (a .words)) in
+    let l = machine (now (a .code)) (now (a .kinds)) (now (a .words)) in
     forward-made l (now (a .slots)) (now (a .log)) (now (a .state)) (now (a .answer)) (is-passed _ (sym (c .before .before .before .before .before .before .before .before .before .before .before .before .before .before .before .before .before .before .sizes-fit .ensures) ∙ not-false _ (c .before .before .before .before .before .before .before .before .before .before .before .before .before .before .before .before .before .if2 .left))) _ _ _ _ _ _ _ (c .before .before .leave .ensures .0) (c .before .before .leave .ensures .1) (is-passed _ (sym (c .before .before .before .before .before .before .before .before .before .before .before .before .before .before .before .before .before .before .before .before .before .are-lent .ensures) ∙ not-false _ (c .before .before .before .before .before .before .before .before .before .before .before .before .before .before .before .before .before .before .before .before .if1 .left))) (c .before .before .before .before .before .before .leave-value .ensures) (rw (c .before .before .before .before .before .before .before .before .before .before .before .before .before .read-state .ensures) at (c .before .before .before .before .before .before .before .before .before .before .before .before .forward .ensures))
 
 pub workbook-forward-spec : {M : Type 1} → statement M

@@ -5,9 +5,9 @@ use denote.Ref.{now}
 use mathlib.Core.Path.{sym, _∙_}
 use borrow.Author.Tests.{not-true, not-false}
 use Rattle.rules.proofs.Check.{is-passed}
-use Rattle.workbook.proofs.Checks.{lengths-no, lengths-yes, sizes-no, sizes-yes, first-no, second-no}
+use Rattle.workbook.proofs.Checks.{lengths-no, lengths-yes, sizes-no, sizes-yes, no-step, no-step-second}
 use native.Mathlib.Omega.{arith}
-use Rattle.rules.specs.Questions.{method}
+use Rattle.rules.specs.Step.{machine}
 use Prim.Native.Nat.{_≤_}
 use lib.ListN.{length}
 use Rattle.workbook.specs.Calls.{stepCall}
@@ -26,7 +26,7 @@ same-length-2 c = search needs
 
 returns : tie.Need-returns
 unfolding stepCall
-returns c = first-no _ _ _ _ _ _ _ (lengths-no _ _ 4 (sym (c .before .are-lent .ensures) ∙ not-true _ (c .if1 .taken)))
+returns c = no-step _ _ _ _ _ _ (lengths-no _ _ 4 (sym (c .before .are-lent .ensures) ∙ not-true _ (c .if1 .taken)))
 
 sizes-fit-requires : tie.Need-sizes-fit-requires
 sizes-fit-requires c κs = (lengths-yes (now (c .before .before .before .before .before .before .before .before .before .before .before .args .state)) (now (c .before .before .before .before .before .before .before .before .before .before .before .args .answer)) 4 (sym (c .before .before .are-lent .ensures) ∙ not-false _ (c .before .if1 .left))) .0
@@ -39,7 +39,7 @@ same-length-4 c = search needs
 
 returns-2 : tie.Need-returns-2
 unfolding stepCall
-returns-2 c = second-no _ _ _ _ _ _ _ (is-passed _ (sym (c .before .before .before .before .are-lent .ensures) ∙ not-false _ (c .before .before .before .if1 .left))) (sizes-no _ (sym (c .before .sizes-fit .ensures) ∙ not-true _ (c .if2 .taken)))
+returns-2 c = no-step-second _ _ _ _ _ _ (is-passed _ (sym (c .before .before .before .before .are-lent .ensures) ∙ not-false _ (c .before .before .before .if1 .left))) (sizes-no _ (sym (c .before .sizes-fit .ensures) ∙ not-true _ (c .if2 .taken)))
 
 read-state-requires : tie.Need-read-state-requires
 read-state-requires c κs = ((lengths-yes (now (c .before .before .before .before .before .before .before .before .before .before .before .before .before .before .before .args .state)) (now (c .before .before .before .before .before .before .before .before .before .before .before .before .before .before .before .args .answer)) 4 (sym (c .before .before .before .before .before .before .are-lent .ensures) ∙ not-false _ (c .before .before .before .before .before .if1 .left))) .0, sizes-yes (now (c .before .before .before .before .before .before .before .before .before .before .before .before .before .before .before .args .state)) (sym (c .before .before .before .sizes-fit .ensures) ∙ not-false _ (c .before .before .if2 .left)))
@@ -71,7 +71,7 @@ same-length-7 c = search needs
 returns-3 : tie.Need-returns-3
 returns-3 c =
     let a = c .before .before .before .before .before .before .before .before .before .before .before .before .before .before .before .before .before .before .before .before .before .before .before .before .before .before .before .before .args in
-    let l = method (now (a .code)) (now (a .kinds)) (now (a .words)) in
+    let l = machine (now (a .code)) (now (a .kinds)) (now (a .words)) in
     step-made l (now (a .slots)) [] (now (a .state)) (now (a .answer)) (is-passed _ (sym (c .before .before .before .before .before .before .before .before .before .before .before .before .before .before .before .before .sizes-fit .ensures) ∙ not-false _ (c .before .before .before .before .before .before .before .before .before .before .before .before .before .before .before .if2 .left))) _ _ _ _ [] _ _ (c .before .before .leave .ensures .0) (c .before .before .leave .ensures .1) (is-passed _ (sym (c .before .before .before .before .before .before .before .before .before .before .before .before .before .before .before .before .before .before .before .are-lent .ensures) ∙ not-false _ (c .before .before .before .before .before .before .before .before .before .before .before .before .before .before .before .before .before .before .if1 .left))) (c .before .before .before .before .before .before .leave-value .ensures) _ (rw (c .before .before .before .before .before .before .before .before .before .before .before .before .read-state .ensures) at (c .before .before .before .before .before .before .before .before .before .before .before .step .ensures)) (c .before .before .before .before .before .before .before .before .pressed-by .ensures)
 
 pub workbook-step-spec : {M : Type 1} → statement M
