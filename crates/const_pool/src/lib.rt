@@ -4,10 +4,10 @@ ghost use lib.ListN.{getD};
 ghost use Rattle.values.specs.Kinds.{int, long, float, double};
 ghost use Rattle.const_pool.specs.Constant.{constantOf};
 
-// A constant's words, the high one 0 where it has one word, or none of the right kind.
+// A constant's words, the high one 0 where it has one word, or the number of the question that refuses it.
 pub enum Constant {
     Found { low: u32, high: u32 },
-    Missing,
+    Refused(u32),
 }
 
 // The byte at an index, and 0 past the end.
@@ -30,7 +30,7 @@ pub fn ldc(kinds: &[u8], words: &[u32], index: u32) -> Constant
 {
     let at = index as usize;
     if kinds.len() < at + 1 {
-        return Constant::Missing;
+        return Constant::Refused(10);
     }
     let kind = kind_at(kinds, at);
     let low = word_at(words, at);
@@ -40,7 +40,7 @@ pub fn ldc(kinds: &[u8], words: &[u32], index: u32) -> Constant
     if kind == 4 {
         return Constant::Found { low, high: 0 };
     }
-    Constant::Missing
+    Constant::Refused(10)
 }
 
 // LDC2_W: a long or a double, with a following entry of any kind.
@@ -49,7 +49,7 @@ pub fn ldc2_w(kinds: &[u8], words: &[u32], index: u32) -> Constant
 {
     let at = index as usize;
     if kinds.len() < at + 2 {
-        return Constant::Missing;
+        return Constant::Refused(10);
     }
     let kind = kind_at(kinds, at);
     let low = word_at(words, at);
@@ -60,5 +60,5 @@ pub fn ldc2_w(kinds: &[u8], words: &[u32], index: u32) -> Constant
     if kind == 6 {
         return Constant::Found { low, high };
     }
-    Constant::Missing
+    Constant::Refused(10)
 }

@@ -19,9 +19,6 @@ pub(crate) struct Answer {
 // The refusal of an answer that is wrong whatever the vector says: a field of two digits is at most 255.
 const WRONG: u32 = 256;
 
-// The number of the question on a constant.
-const NO_CONSTANT: u32 = 10;
-
 // An answer that is a number of a question.
 fn refused(refusal: u32) -> Answer {
     Answer {
@@ -107,6 +104,6 @@ pub(crate) fn constant(kinds: &[u8], words: &[u32], index: u32, opcode: u32) -> 
             second: high,
             third: 0,
         },
-        Constant::Missing => refused(NO_CONSTANT),
+        Constant::Refused(n) => refused(n),
     }
 }

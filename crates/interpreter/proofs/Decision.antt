@@ -22,6 +22,7 @@ use Rattle.rules.specs.Step.{frame, base, wordsAt, update, inside, ordinary, fo
 use Rattle.rules.proofs.Rows.{works}
 use Rattle.rules.proofs.Fetched.{Sound}
 use Rattle.rules.proofs.Step.{result, decided}
+use Rattle.operands.specs.Target.{targetOf}
 use Rattle.operands.specs.Switch.{offsetIn}
 use Rattle.instructions.specs.Table.{isIn, sharedOf, entryOf}
 use Rattle.instructions.proofs.Entries.{digits}
@@ -37,11 +38,11 @@ use Rattle.interpreter.proofs.Results.{doesFour, isStore, row-stores, o
 -- ---- what a result comes to
 
 module _ (l : Method) (s : State) (i : Instruction) where
-  ordinary-is : (to : ℤ) (at n : ℕ) (ws : List ℕ) → decision (ordinary l s i to at n ws) ≡ ordinaryTo (inside (l .code) to) (s .depth - popped i + pushed i) at n (six ws)
-  unfolding _>>=_ ordinaryTo
+  ordinary-is : (to : ℤ) (at n : ℕ) (ws : List ℕ) → decision (ordinary l s i to at n ws) ≡ ordinaryTo (targetOf (inside (l .code) to)) (s .depth - popped i + pushed i) at n (six ws)
+  unfolding _>>=_ targetOf ordinaryTo
   ordinary-is to at n ws = go (inside (l .code) to)
     where
-      go : (x : Check ℕ) → decision (x >>= λ pc. passed (Decision.Ordinary (update pc (s .depth - popped i + pushed i) at n ws))) ≡ ordinaryTo x (s .depth - popped i + pushed i) at n (six ws)
+      go : (x : Check ℕ) → decision (x >>= λ pc. passed (Decision.Ordinary (update pc (s .depth - popped i + pushed i) at n ws))) ≡ ordinaryTo (targetOf x) (s .depth - popped i + pushed i) at n (six ws)
       go (passed pc) = refl
       go (refused n) = refl
 

@@ -39,11 +39,13 @@ fn decide_located(
     ensures { λ r. ⌜ r ≡ locatedDecision (method (now (code .entry)) (now (kinds .entry)) (now (words .entry))) (now (slots .entry)) pc i ⌝ }
 {
     let read = read_words(kinds, words, slots, i.op, i.index, i.base);
-    let Read::Words(w) = read else {
-        return Decision::Refused(10);
-    };
-    let does = effect(i.op, i.constant, w.a, w.b, w.c, w.d);
-    finish(code, pc, i, w.a, does)
+    match read {
+        Read::Refused(n) => Decision::Refused(n),
+        Read::Words(w) => {
+            let does = effect(i.op, i.constant, w.a, w.b, w.c, w.d);
+            finish(code, pc, i, w.a, does)
+        }
+    }
 }
 
 // Questions 4 to 10, where questions 1 to 3 have passed.

@@ -14,10 +14,10 @@ pub(crate) struct Four {
     pub d: u32,
 }
 
-// The words, or question 9's no.
+// The words, or the number of the question that refuses the constant.
 pub(crate) enum Read {
     Words(Four),
-    Missing,
+    Refused(u32),
 }
 
 // The word at a place, and 0 past the end.
@@ -58,7 +58,7 @@ fn from_pool(found: Constant) -> Read
             c: 0,
             d: 0,
         }),
-        Constant::Missing => Read::Missing,
+        Constant::Refused(n) => Read::Refused(n),
     }
 }
 
