@@ -5,6 +5,7 @@ use crate::outcome::Effect;
 use crate::outcome::one;
 use integers::iadd;
 use integers::iand;
+use integers::iinc;
 use integers::imul;
 use integers::ineg;
 use integers::ior;
@@ -38,6 +39,6 @@ pub(crate) fn int_effect(op: u8, constant: u32, a: u32, b: u32) -> Effect
         126 => one(iand(a, b)), // IAND
         128 => one(ior(a, b)), // IOR
         130 => one(ixor(a, b)), // IXOR
-        _ => one(iadd(a, constant)), // IINC
+        _ => one(iinc(a, constant)), // IINC
     }
 }

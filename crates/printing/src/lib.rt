@@ -19,7 +19,7 @@ pub fn print(text: &[u8]) {
 }
 
 // Prints a byte.
-pub fn print_byte(byte: u8) {
+fn print_byte(byte: u8) {
     let text = [byte; 1];
     print(&text);
 }
