@@ -31,8 +31,8 @@ use Rattle.frame.specs.FrameAnswer.{frameAnswer}
 use Rattle.frame.specs.Place.{placeOf}
 use Rattle.frame.proofs.FrameAnswers.{frame-refused}
 use Rattle.frame.proofs.Needs.{Says, place-says}
-use Rattle.interpreter.specs.Stages.{reach, sharedIn, switchThere, locatedOf, locatedDecision}
-use Rattle.interpreter.proofs.Decision.{entryAt, listed, switch-there}
+use Rattle.interpreter.specs.Stages.{reach, sharedIn, locatedOf, locatedDecision}
+use Rattle.interpreter.proofs.Decision.{entryAt, listed}
 use Rattle.interpreter.proofs.Sources.{located-decides}
 
 -- ---- questions 1 to 3
@@ -91,9 +91,6 @@ module _ (l : Method) (s : State) (slots : List ℕ) (framed : frameCheck l s sl
 
     pub in-table : isIn sharedOpcodes (sharedIn entry) ≡ true
     in-table = rw (d .entered) (listed l s (d .i) (fetched-sound (l .code) (s .pc) (d .i) (d .at)))
-
-    pub in-code : switchThere (l .code) (s .pc) (sharedIn entry) ≡ true
-    in-code = rw (d .entered) (switch-there l s (d .i) (fetched-sound (l .code) (s .pc) (d .i) (d .at)))
 
 -- ---- question 10
 

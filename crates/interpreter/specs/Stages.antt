@@ -1,23 +1,21 @@
 -- The step in the stages of the code, on an instruction that is decoded and placed: for the contracts of private functions, tied to the rules by
 -- proofs/Decision and proofs/Sources. Assumes nothing.
 use Prim.Native.Nat.{ℕ, _+_, _/_}
-use mathlib.Core.Bool.{Bool, true, _||_, cond}
+use mathlib.Core.Bool.{Bool, _||_, cond}
 use mathlib.Core.List.{List}
 use lib.Dec.{eqb}
 use lib.IntN.{ℤ, pos, _+ℤ_}
 use lib.ListN.{getD}
 use Rattle.values.specs.Kinds.{int, long, float, double}
-use Rattle.values.specs.Integers.{_≤ᶻ_}
 use Rattle.values.specs.Words.{meaning}
 use Rattle.rules.specs.declared.Decision.{Decision}
 use Rattle.rules.specs.declared.Decision.the-variants as Decision
-use Rattle.rules.specs.Fetch.{lowKey, highKey, tableOperand, pairCount, pairsOperand}
 use Rattle.rules.specs.Questions.{Method}
 use Rattle.rules.specs.Step.{firstPlace, inside}
 use Rattle.operands.specs.declared.jump.Target.{Target}
 use Rattle.operands.specs.declared.jump.Target.the-variants as Target
 use Rattle.operands.specs.Target.{targetOf}
-use Rattle.operands.specs.Switch.{offsetIn}
+use Rattle.operands.specs.Switch.{tableOffset, lookupOffset}
 use Rattle.const_pool.specs.declared.Constant.{Constant}
 use Rattle.const_pool.specs.declared.Constant.the-variants as Constant
 use Rattle.const_pool.specs.Constant.{constantOf}
@@ -89,14 +87,11 @@ ordinaryTo (Target.At pc) depth first many w =
     Decision.Ordinary (record { pc = pc; depth = depth; first = firstPlace first many; many = many; w0 = w .w0; w1 = w .w1; w2 = w .w2; w3 = w .w3; w4 = w .w4; w5 = w .w5 })
 ordinaryTo (Target.Refused n) depth first many w = Decision.Refused n
 
--- question 5 has passed a switch
-abbrev pub switchThere : List ℕ → ℕ → ℕ → Bool
-switchThere code pc op = cond (eqb op 170) (lowKey code pc ≤ᶻ highKey code pc) (cond (eqb op 171) (pos 0 ≤ᶻ pairCount code pc) true)
-
+-- by how much a branch that is taken goes on: a switch by its key, any other by its constant
 unfoldable pub offsetAt : List ℕ → ℕ → ℕ → ℕ → ℕ → ℤ
 offsetAt code pc op constant key =
-    cond (eqb op 170) (offsetIn (tableOperand code pc) (meaning int key))
-    (cond (eqb op 171) (offsetIn (pairsOperand code pc) (meaning int key))
+    cond (eqb op 170) (tableOffset code pc (meaning int key))
+    (cond (eqb op 171) (lookupOffset code pc (meaning int key))
     (meaning int constant))
 
 unfoldable pub branchOf : List ℕ → ℕ → Located → ℕ → Bool → Decision

@@ -22,7 +22,7 @@ ghost use Rattle.effects.specs.Families.{sharedOpcodes};
 ghost use Rattle.rules.specs.Check.{passed};
 ghost use Rattle.rules.specs.Questions.{method, frameCheck};
 ghost use Rattle.rules.specs.Step.{decideOf};
-ghost use Rattle.interpreter.specs.Stages.{switchThere, locatedDecision};
+ghost use Rattle.interpreter.specs.Stages.{locatedDecision};
 
 // Question 9, what the instruction does, and question 10.
 fn decide_located(
@@ -35,7 +35,6 @@ fn decide_located(
 ) -> Decision
     requires { ⌜ length (now code) ≤ 65535 ⌝ }
     requires { ⌜ isIn sharedOpcodes (i .op) ≡ true ⌝ }
-    requires { ⌜ switchThere (now code) pc (i .op) ≡ true ⌝ }
     ensures { λ r. ⌜ r ≡ locatedDecision (method (now (code .entry)) (now (kinds .entry)) (now (words .entry))) (now (slots .entry)) pc i ⌝ }
 {
     let read = read_words(kinds, words, slots, i.op, i.index, i.base);

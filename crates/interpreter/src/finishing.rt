@@ -15,7 +15,7 @@ ghost use lib.ListN.{length};
 ghost use Rattle.values.specs.Kinds.{int};
 ghost use Rattle.values.specs.Words.{meaning};
 ghost use Rattle.rules.specs.Step.{firstPlace};
-ghost use Rattle.interpreter.specs.Stages.{noWords, reach, switchThere, offsetAt, ordinaryTo, branchOf, finishOf, storesTo, locatedOf};
+ghost use Rattle.interpreter.specs.Stages.{noWords, reach, offsetAt, ordinaryTo, branchOf, finishOf, storesTo, locatedOf};
 
 // An instruction that questions 4 to 8 have passed: its shared opcode, index and constant, the offset after it, its first place on
 // the stack, the new depth, and where its words go and how many.
@@ -124,7 +124,6 @@ fn ordinary_to(to: Target, depth: u32, first: u32, many: u32, w: Six) -> Decisio
 
 // The offset of a branch that is taken: a switch looks its key up in the code, any other has it as its constant.
 fn branch_offset(code: &[u8], pc: u32, op: u8, constant: u32, key: u32) -> u32
-    requires { ⌜ switchThere (now code) pc op ≡ true ⌝ }
     ensures { λ r. ⌜ meaning int r ≡ offsetAt (now (code .entry)) pc op constant key ⌝ }
 {
     if op == 170 {
@@ -139,7 +138,6 @@ fn branch_offset(code: &[u8], pc: u32, op: u8, constant: u32, key: u32) -> u32
 // A branch that is taken.
 fn jump(code: &[u8], pc: u32, i: Located, key: u32) -> Decision
     requires { ⌜ length (now code) ≤ 65535 ⌝ }
-    requires { ⌜ switchThere (now code) pc (i .op) ≡ true ⌝ }
     ensures { λ r. ⌜ r ≡ branchOf (now (code .entry)) pc i key true ⌝ }
 {
     let offset = branch_offset(code, pc, i.op, i.constant, key);
@@ -150,7 +148,6 @@ fn jump(code: &[u8], pc: u32, i: Located, key: u32) -> Decision
 // A branch, taken or not.
 fn branch(code: &[u8], pc: u32, i: Located, key: u32, taken: bool) -> Decision
     requires { ⌜ length (now code) ≤ 65535 ⌝ }
-    requires { ⌜ switchThere (now code) pc (i .op) ≡ true ⌝ }
     ensures { λ r. ⌜ r ≡ branchOf (now (code .entry)) pc i key taken ⌝ }
 {
     if taken {
@@ -163,7 +160,6 @@ fn branch(code: &[u8], pc: u32, i: Located, key: u32, taken: bool) -> Decision
 // What the step comes to, of what its instruction does; `key` is the first word that it works on.
 pub(crate) fn finish(code: &[u8], pc: u32, i: Located, key: u32, does: Effect) -> Decision
     requires { ⌜ length (now code) ≤ 65535 ⌝ }
-    requires { ⌜ switchThere (now code) pc (i .op) ≡ true ⌝ }
     ensures { λ r. ⌜ r ≡ finishOf (now (code .entry)) pc i key does ⌝ }
 {
     match does {

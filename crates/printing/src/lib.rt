@@ -12,9 +12,12 @@ pub use walks::print_decision;
 pub use walks::print_end;
 pub use walks::print_header;
 pub use walks::print_step;
+ghost use mathlib.Core.Path.{_≡_};
 
 // Prints some bytes.
-pub fn print(text: &[u8]) {
+pub fn print(text: &[u8])
+    ensures { λ _. ⌜ now (text .exit) ≡ now (text .entry) ⌝ }
+{
     io::write_all(STDOUT_FILENO, text);
 }
 
@@ -25,7 +28,9 @@ fn print_byte(byte: u8) {
 }
 
 // Prints bytes up to the first blank.
-pub fn print_word(text: &[u8]) {
+pub fn print_word(text: &[u8])
+    ensures { λ _. ⌜ now (text .exit) ≡ now (text .entry) ⌝ }
+{
     let mut i = 0;
     while i < text.len() {
         if text[i] == b' ' {

@@ -23,7 +23,7 @@ no-words-requires c κs = search needs
 ordinary-to-requires : tie.Need-ordinary-to-requires
 ordinary-to-requires c κs =
     let a = c .before .before .before .before .args in
-    target-reach (now (a .code)) (pos (a .i .next)) _ (c .before .inside .ensures) (c .before .before .before .before .pre .0)
+    target-reach (now (a .code)) (pos (a .i .next)) _ (c .before .inside .ensures) (c .before .before .before .before .pre)
 
 returns-2 : tie.Need-returns-2
 unfolding branchOf

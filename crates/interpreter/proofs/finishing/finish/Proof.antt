@@ -16,7 +16,7 @@ inside-requires c κs = search needs
 ordinary-to-requires : tie.Need-ordinary-to-requires
 ordinary-to-requires c κs =
     let a = c .before .before .before .before .before .args in
-    target-reach (now (a .code)) (pos (a .i .next)) _ (c .inside .ensures) (c .before .before .before .before .before .pre .0)
+    target-reach (now (a .code)) (pos (a .i .next)) _ (c .inside .ensures) (c .before .before .before .before .before .pre)
 
 enum-told : tie.Need-enum-told
 enum-told c = search needs

@@ -21,7 +21,7 @@ no-words-requires c κs = search needs
 ordinary-to-requires : tie.Need-ordinary-to-requires
 ordinary-to-requires c κs =
     let a = c .before .before .before .before .args in
-    target-reach (now (a .code)) (pos (a .pc) +ℤ meaning int (c .before .before .branch-offset .result)) _ (c .before .jump-relative .ensures) (c .before .before .before .before .pre .0)
+    target-reach (now (a .code)) (pos (a .pc) +ℤ meaning int (c .before .before .branch-offset .result)) _ (c .before .jump-relative .ensures) (c .before .before .before .before .pre)
 
 returns : tie.Need-returns
 unfolding branchOf
