@@ -12,11 +12,11 @@ use Rattle.rules.specs.Questions.{Method, popped, pushed, localsBelow, constant
 use Rattle.rules.specs.Step.{base}
 use Rattle.rules.proofs.Fetched.{Sound}
 use Rattle.rules.proofs.Rows.{of-row, small, small-row, OneLocal, no-local, one-local, one-named}
-use Rattle.instructions.specs.Table.{entryOf}
+use Rattle.instructions.specs.Table.{entryOf, popsIn, pushesIn, localsIn}
 use Rattle.instructions.proofs.Entries.{digits}
 use Rattle.frame.specs.declared.places.Placed.{Placed}
 use Rattle.frame.specs.declared.places.Placed.the-variants.{At, Refused}
-use Rattle.frame.specs.Place.{popsIn, pushesIn, localsIn, localThere, placeCheck, answer, placeOf}
+use Rattle.frame.specs.Place.{localThere, placeCheck, answer, placeOf}
 
 and-yes : (t : Bool) → (t && true) ≡ t
 and-yes true = refl

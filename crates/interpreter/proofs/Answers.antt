@@ -22,7 +22,7 @@ use Rattle.operands.specs.declared.jump.Target.{Target}
 use Rattle.operands.specs.Target.{targetOf}
 use Rattle.instructions.specs.declared.decoding.Decoded.the-variants as Decoded
 use Rattle.instructions.specs.Decode.{decoded}
-use Rattle.instructions.specs.Table.{isIn}
+use Rattle.instructions.specs.Table.{isIn, sharedIn}
 use Rattle.effects.specs.Families.{sharedOpcodes}
 use Rattle.frame.specs.declared.questions.FrameCheck.the-variants as FrameCheck
 use Rattle.frame.specs.declared.places.Placed.{Placed}
@@ -31,7 +31,7 @@ use Rattle.frame.specs.FrameAnswer.{frameAnswer}
 use Rattle.frame.specs.Place.{placeOf}
 use Rattle.frame.proofs.FrameAnswers.{frame-refused}
 use Rattle.frame.proofs.Needs.{Says, place-says}
-use Rattle.interpreter.specs.Stages.{reach, sharedIn, locatedOf, locatedDecision}
+use Rattle.interpreter.specs.Stages.{reach, locatedOf, locatedDecision}
 use Rattle.interpreter.proofs.Decision.{entryAt, listed}
 use Rattle.interpreter.proofs.Sources.{located-decides}
 

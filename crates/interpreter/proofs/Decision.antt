@@ -24,7 +24,7 @@ use Rattle.rules.proofs.Fetched.{Sound}
 use Rattle.rules.proofs.Step.{result, decided}
 use Rattle.operands.specs.Target.{targetOf}
 use Rattle.operands.specs.Switch.{offsetIn, tableOffset, lookupOffset}
-use Rattle.instructions.specs.Table.{isIn, sharedOf, entryOf}
+use Rattle.instructions.specs.Table.{isIn, sharedOf, entryOf, sharedIn}
 use Rattle.instructions.proofs.Entries.{digits}
 use Rattle.effects.specs.declared.outcome.Effect.the-variants as Effect
 use Rattle.effects.specs.Effects.{six, effectOf, effectAt}
@@ -32,7 +32,7 @@ use Rattle.effects.specs.Families.{sharedOpcodes}
 use Rattle.effects.proofs.OwnRow.{own-effect, shared-listed}
 use Rattle.frame.proofs.Needs.{Stands, pushed-in, locals-in}
 use Rattle.interpreter.specs.declared.finishing.Located.{Located}
-use Rattle.interpreter.specs.Stages.{sharedIn, locatedOf, ordinaryTo, offsetAt, branchOf, finishOf}
+use Rattle.interpreter.specs.Stages.{locatedOf, ordinaryTo, offsetAt, branchOf, finishOf}
 use Rattle.interpreter.proofs.Results.{doesFour, isStore, row-stores, offsetBy, offsetOf, row-offset, row-table, row-pairs}
 
 -- ---- what a result comes to

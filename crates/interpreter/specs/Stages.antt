@@ -1,6 +1,6 @@
 -- The step in the stages of the code, on an instruction that is decoded and placed: for the contracts of private functions, tied to the rules by
 -- proofs/Decision and proofs/Sources. Assumes nothing.
-use Prim.Native.Nat.{ℕ, _+_, _/_}
+use Prim.Native.Nat.{ℕ, _+_}
 use mathlib.Core.Bool.{Bool, _||_, cond}
 use mathlib.Core.List.{List}
 use lib.Dec.{eqb}
@@ -16,6 +16,7 @@ use Rattle.operands.specs.declared.jump.Target.{Target}
 use Rattle.operands.specs.declared.jump.Target.the-variants as Target
 use Rattle.operands.specs.Target.{targetOf}
 use Rattle.operands.specs.Switch.{tableOffset, lookupOffset}
+use Rattle.instructions.specs.Table.{pushesIn, localsIn, sharedIn}
 use Rattle.const_pool.specs.declared.Constant.{Constant}
 use Rattle.const_pool.specs.declared.Constant.the-variants as Constant
 use Rattle.const_pool.specs.Constant.{constantOf}
@@ -23,7 +24,6 @@ use Rattle.effects.specs.declared.outcome.Six.{Six}
 use Rattle.effects.specs.declared.outcome.Effect.{Effect}
 use Rattle.effects.specs.declared.outcome.Effect.the-variants as Effect
 use Rattle.effects.specs.Effects.{effectAt}
-use Rattle.frame.specs.Place.{pushesIn, localsIn}
 use Rattle.interpreter.specs.declared.reading.Four.{Four}
 use Rattle.interpreter.specs.declared.reading.Read.{Read}
 use Rattle.interpreter.specs.declared.reading.Read.the-variants as Read
@@ -50,10 +50,6 @@ readOf kinds words slots op index base =
     (Read.Words (fourAt slots base))))
 
 -- ---- where it goes, and its words
-
--- the opcode that instructions of the same effect share
-abbrev pub sharedIn : ℕ → ℕ
-sharedIn entry = entry / 0x1000000
 
 -- the stores and IINC write their local
 abbrev pub storesTo : ℕ → Bool

@@ -1,6 +1,10 @@
 // What a step comes to, from what its instruction does: the next offset, with question 10, and where the words go.
 use effects::Effect;
 use effects::Six;
+use instructions::locals_in;
+use instructions::opcodes::*;
+use instructions::pushes_in;
+use instructions::shared_in;
 use operands::Target;
 use operands::inside;
 use operands::jump_relative;
@@ -34,13 +38,13 @@ pub(crate) struct Located {
 fn is_store(op: u8) -> bool
     ensures { λ r. ⌜ r ≡ storesTo op ⌝ }
 {
-    if op == 54 {
+    if op == ISTORE {
         return true;
     }
-    if op == 55 {
+    if op == LSTORE {
         return true;
     }
-    op == 132
+    op == IINC
 }
 
 // An instruction of an entry of the table, with its operands, the offset after it and its place on the stack.
@@ -54,7 +58,7 @@ pub(crate) fn locate(
 ) -> Located
     ensures { λ r. ⌜ r ≡ locatedOf entry index constant next base depth ⌝ }
 {
-    let op = (entry / 0x1000000) as u8;
+    let op = shared_in(entry);
     if is_store(op) {
         return Located {
             op,
@@ -64,7 +68,7 @@ pub(crate) fn locate(
             base,
             depth,
             first: index,
-            many: entry / 0x10000 % 16,
+            many: locals_in(entry),
         };
     }
     Located {
@@ -75,7 +79,7 @@ pub(crate) fn locate(
         base,
         depth,
         first: base,
-        many: entry / 0x1000 % 16,
+        many: pushes_in(entry),
     }
 }
 
@@ -126,10 +130,10 @@ fn ordinary_to(to: Target, depth: u32, first: u32, many: u32, w: Six) -> Decisio
 fn branch_offset(code: &[u8], pc: u32, op: u8, constant: u32, key: u32) -> u32
     ensures { λ r. ⌜ meaning int r ≡ offsetAt (now (code .entry)) pc op constant key ⌝ }
 {
-    if op == 170 {
+    if op == TABLESWITCH {
         return table_offset(code, pc, key);
     }
-    if op == 171 {
+    if op == LOOKUPSWITCH {
         return lookup_offset(code, pc, key);
     }
     constant

@@ -12,6 +12,9 @@ pub enum Target {
     Refused(u32),
 }
 
+// The number of question 10.
+const OUTSIDE: u32 = 11;
+
 // Question 10: a place, if it is in the code.
 pub fn inside(code: &[u8], place: usize) -> Target
     ensures { λ r. ⌜ r ≡ targetOf (inside (now (code .entry)) (pos place)) ⌝ }
@@ -19,7 +22,7 @@ pub fn inside(code: &[u8], place: usize) -> Target
     if place < code.len() {
         Target::At(place)
     } else {
-        Target::Refused(11)
+        Target::Refused(OUTSIDE)
     }
 }
 
@@ -29,7 +32,7 @@ pub fn jump_relative(code: &[u8], base: u32, offset: u32) -> Target
 {
     let raised = base as usize + (offset as usize + 0x8000_0000) % 0x1_0000_0000;
     if raised < 0x8000_0000 {
-        return Target::Refused(11);
+        return Target::Refused(OUTSIDE);
     }
     inside(code, raised - 0x8000_0000)
 }
