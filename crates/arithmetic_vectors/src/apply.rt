@@ -35,8 +35,10 @@ fn int_holds(op: u64, a: u32, b: u32, result: u64) -> bool {
 // IINC, whose constant has 8 bits, or 16 after WIDE.
 fn increment_holds(op: u64, a: u32, constant: u32, result: u64) -> bool {
     match op {
-        0x84 => constant <= 0xFF && wide(integers::iinc(a, constant as u8)) == result,
-        0xC4 => constant <= 0xFFFF && wide(integers::iinc_wide(a, constant as u16)) == result,
+        0x84 => constant <= 0xFF
+            && wide(integers::iinc(a, integers::extended8(constant as u8))) == result,
+        0xC4 => constant <= 0xFFFF
+            && wide(integers::iinc(a, integers::extended16(constant as u16))) == result,
         _ => false,
     }
 }

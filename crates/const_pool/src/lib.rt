@@ -4,10 +4,22 @@ ghost use lib.ListN.{getD};
 ghost use Rattle.values.specs.Kinds.{int, long, float, double};
 ghost use Rattle.const_pool.specs.Constant.{constantOf};
 
-// A constant's words, the high one 0 where it has one word, or none of the right kind.
+// The tags of JVMS 4.4.
+const CONSTANT_INTEGER: u8 = 3;
+
+const CONSTANT_FLOAT: u8 = 4;
+
+const CONSTANT_LONG: u8 = 5;
+
+const CONSTANT_DOUBLE: u8 = 6;
+
+// The number of question 9.
+const NO_CONSTANT: u32 = 10;
+
+// A constant's words, the high one 0 where it has one word, or the number of the question that refuses it.
 pub enum Constant {
     Found { low: u32, high: u32 },
-    Missing,
+    Refused(u32),
 }
 
 // The byte at an index, and 0 past the end.
@@ -30,17 +42,17 @@ pub fn ldc(kinds: &[u8], words: &[u32], index: u32) -> Constant
 {
     let at = index as usize;
     if kinds.len() < at + 1 {
-        return Constant::Missing;
+        return Constant::Refused(NO_CONSTANT);
     }
     let kind = kind_at(kinds, at);
     let low = word_at(words, at);
-    if kind == 3 {
+    if kind == CONSTANT_INTEGER {
         return Constant::Found { low, high: 0 };
     }
-    if kind == 4 {
+    if kind == CONSTANT_FLOAT {
         return Constant::Found { low, high: 0 };
     }
-    Constant::Missing
+    Constant::Refused(NO_CONSTANT)
 }
 
 // LDC2_W: a long or a double, with a following entry of any kind.
@@ -49,16 +61,16 @@ pub fn ldc2_w(kinds: &[u8], words: &[u32], index: u32) -> Constant
 {
     let at = index as usize;
     if kinds.len() < at + 2 {
-        return Constant::Missing;
+        return Constant::Refused(NO_CONSTANT);
     }
     let kind = kind_at(kinds, at);
     let low = word_at(words, at);
     let high = word_at(words, at + 1);
-    if kind == 5 {
+    if kind == CONSTANT_LONG {
         return Constant::Found { low, high };
     }
-    if kind == 6 {
+    if kind == CONSTANT_DOUBLE {
         return Constant::Found { low, high };
     }
-    Constant::Missing
+    Constant::Refused(NO_CONSTANT)
 }

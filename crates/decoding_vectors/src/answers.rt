@@ -5,6 +5,7 @@ use const_pool::ldc2_w;
 use instructions::Decoded;
 use instructions::decode;
 use instructions::entry;
+use instructions::opcodes::*;
 use operands::lookup_offset;
 use operands::table_offset;
 
@@ -18,9 +19,6 @@ pub(crate) struct Answer {
 
 // The refusal of an answer that is wrong whatever the vector says: a field of two digits is at most 255.
 const WRONG: u32 = 256;
-
-// The number of the question on a constant.
-const NO_CONSTANT: u32 = 10;
 
 // An answer that is a number of a question.
 fn refused(refusal: u32) -> Answer {
@@ -41,7 +39,7 @@ fn byte_at(code: &[u8], at: usize) -> u8 {
 fn expected_entry(code: &[u8], pc: u32) -> u32 {
     let at = pc as usize;
     let opcode = byte_at(code, at);
-    if opcode == 196 {
+    if opcode == WIDE {
         return entry(byte_at(code, at + 1));
     }
     entry(opcode)
@@ -74,10 +72,10 @@ pub(crate) fn instruction(code: &[u8], pc: u32) -> Answer {
 // The offset of the branch that the switch at an offset takes for a key.
 pub(crate) fn branch(code: &[u8], pc: u32, key: u32) -> Answer {
     let opcode = byte_at(code, pc as usize);
-    if opcode != 170 && opcode != 171 {
+    if opcode != TABLESWITCH && opcode != LOOKUPSWITCH {
         return refused(WRONG);
     }
-    let offset = if opcode == 170 {
+    let offset = if opcode == TABLESWITCH {
         table_offset(code, pc, key)
     } else {
         lookup_offset(code, pc, key)
@@ -92,10 +90,10 @@ pub(crate) fn branch(code: &[u8], pc: u32, key: u32) -> Answer {
 
 // The words of the constant at an index, for an opcode that loads one.
 pub(crate) fn constant(kinds: &[u8], words: &[u32], index: u32, opcode: u32) -> Answer {
-    if opcode != 18 && opcode != 20 {
+    if opcode != LDC as u32 && opcode != LDC2_W as u32 {
         return refused(WRONG);
     }
-    let found = if opcode == 18 {
+    let found = if opcode == LDC as u32 {
         ldc(kinds, words, index)
     } else {
         ldc2_w(kinds, words, index)
@@ -107,6 +105,6 @@ pub(crate) fn constant(kinds: &[u8], words: &[u32], index: u32, opcode: u32) -> 
             second: high,
             third: 0,
         },
-        Constant::Missing => refused(NO_CONSTANT),
+        Constant::Refused(n) => refused(n),
     }
 }

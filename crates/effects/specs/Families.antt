@@ -2,7 +2,7 @@
 use Prim.Native.Nat.{ℕ, _%_}
 use mathlib.Core.Bool.{Bool, false, cond}
 use mathlib.Core.List.{List, [], _∷_, map}
-use lib.Dec.{ltb}
+use lib.Dec.{ltb, leb}
 use Rattle.rules.specs.Instructions.{instructions}
 use Rattle.instructions.specs.Table.{sharedOf}
 
@@ -17,7 +17,7 @@ arithmeticKind n = cond (ltb n 120) (n % 4) (n % 2)
 
 -- IRETURN to RETURN
 abbrev pub isReturn : ℕ → Bool
-isReturn n = cond (ltb n 172) false (ltb n 178)
+isReturn n = cond (ltb n 172) false (leb n 177)
 
 -- ---- the families
 

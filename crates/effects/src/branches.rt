@@ -1,5 +1,6 @@
 // Branches, jumps and switches (JVMS 2.11.7): whether one is taken.
 use crate::outcome::Effect;
+use instructions::opcodes::*;
 use integers::acmpeq;
 use integers::acmpne;
 use integers::icmpeq;
@@ -21,24 +22,24 @@ pub(crate) fn branch_effect(op: u8, a: u32, b: u32) -> Effect
     ensures { λ r. ⌜ ((constant c d : ℕ) → r ≡ effectAt op constant a b c d) ⌝ }
 {
     match op {
-        153 => Effect::Branch(icmpeq(a, 0)), // IFEQ
-        154 => Effect::Branch(icmpne(a, 0)), // IFNE
-        155 => Effect::Branch(icmplt(a, 0)), // IFLT
-        156 => Effect::Branch(icmpge(a, 0)), // IFGE
-        157 => Effect::Branch(icmpgt(a, 0)), // IFGT
-        158 => Effect::Branch(icmple(a, 0)), // IFLE
-        159 => Effect::Branch(icmpeq(a, b)), // IF_ICMPEQ
-        160 => Effect::Branch(icmpne(a, b)), // IF_ICMPNE
-        161 => Effect::Branch(icmplt(a, b)), // IF_ICMPLT
-        162 => Effect::Branch(icmpge(a, b)), // IF_ICMPGE
-        163 => Effect::Branch(icmpgt(a, b)), // IF_ICMPGT
-        164 => Effect::Branch(icmple(a, b)), // IF_ICMPLE
-        165 => Effect::Branch(acmpeq(a, b)), // IF_ACMPEQ
-        166 => Effect::Branch(acmpne(a, b)), // IF_ACMPNE
-        167 => Effect::Branch(true), // GOTO, GOTO_W
-        170 => Effect::Branch(true), // TABLESWITCH
-        171 => Effect::Branch(true), // LOOKUPSWITCH
-        198 => Effect::Branch(acmpeq(a, 0)), // IFNULL
+        IFEQ => Effect::Branch(icmpeq(a, 0)),
+        IFNE => Effect::Branch(icmpne(a, 0)),
+        IFLT => Effect::Branch(icmplt(a, 0)),
+        IFGE => Effect::Branch(icmpge(a, 0)),
+        IFGT => Effect::Branch(icmpgt(a, 0)),
+        IFLE => Effect::Branch(icmple(a, 0)),
+        IF_ICMPEQ => Effect::Branch(icmpeq(a, b)),
+        IF_ICMPNE => Effect::Branch(icmpne(a, b)),
+        IF_ICMPLT => Effect::Branch(icmplt(a, b)),
+        IF_ICMPGE => Effect::Branch(icmpge(a, b)),
+        IF_ICMPGT => Effect::Branch(icmpgt(a, b)),
+        IF_ICMPLE => Effect::Branch(icmple(a, b)),
+        IF_ACMPEQ => Effect::Branch(acmpeq(a, b)),
+        IF_ACMPNE => Effect::Branch(acmpne(a, b)),
+        GOTO => Effect::Branch(true), // and GOTO_W
+        TABLESWITCH => Effect::Branch(true),
+        LOOKUPSWITCH => Effect::Branch(true),
+        IFNULL => Effect::Branch(acmpeq(a, 0)),
         _ => Effect::Branch(acmpne(a, 0)), // IFNONNULL
     }
 }

@@ -12,6 +12,7 @@ use crate::outcome::Effect;
 use crate::outcome::nothing;
 use crate::returns::return_effect;
 use crate::stack::stack_effect;
+use instructions::opcodes::*;
 ghost use mathlib.Core.Path.{_≡_};
 ghost use mathlib.Core.Bool.{true};
 ghost use Prim.Native.Nat.{ℕ, _≤_, _<_};
@@ -19,64 +20,71 @@ ghost use Rattle.instructions.specs.Table.{isIn};
 ghost use Rattle.effects.specs.Effects.{effectAt};
 ghost use Rattle.effects.specs.Families.{sharedOpcodes, arithmeticKind, isReturn};
 
-// Constants, moves and the stack: the opcodes below 96.
+// Constants, moves and the stack: the opcodes before IADD.
 fn plain_effect(op: u8, constant: u32, a: u32, b: u32, c: u32, d: u32) -> Effect
     requires { ⌜ isIn sharedOpcodes op ≡ true ⌝ }
     requires { ⌜ op < 96 ⌝ }
     ensures { λ r. ⌜ r ≡ effectAt op constant a b c d ⌝ }
 {
-    if op < 18 {
+    if op < LDC {
         return constant_effect(op, constant);
     }
-    if op < 87 {
+    if op < POP {
         return move_effect(op, a, b);
     }
     stack_effect(op, a, b, c, d)
 }
 
-// 0 to 3: an arithmetic opcode of ints, longs, floats, doubles. From 120 on only ints and longs take turns.
+// What an arithmetic opcode works on; the doubles come last.
+const INTS: u8 = 0;
+
+const LONGS: u8 = 1;
+
+const FLOATS: u8 = 2;
+
+// Ints, longs, floats and doubles take turns, and from ISHL on ints and longs alone.
 fn arithmetic_kind(op: u8) -> u8
     ensures { λ r. ⌜ r ≡ arithmeticKind op ⌝ }
 {
-    if op < 120 { op % 4 } else { op % 2 }
+    if op < ISHL { op % 4 } else { op % 2 }
 }
 
-// Arithmetic: the opcodes from 96 to 132.
+// Arithmetic: the opcodes from IADD to IINC.
 fn arithmetic_effect(op: u8, constant: u32, a: u32, b: u32, c: u32, d: u32) -> Effect
     requires { ⌜ isIn sharedOpcodes op ≡ true ⌝ }
     requires { ⌜ (96 ≤ op) × (op < 133) ⌝ }
     ensures { λ r. ⌜ r ≡ effectAt op constant a b c d ⌝ }
 {
     let kind = arithmetic_kind(op);
-    if kind == 0 {
+    if kind == INTS {
         return int_effect(op, constant, a, b);
     }
-    if kind == 1 {
+    if kind == LONGS {
         return long_effect(op, a, b, c, d);
     }
-    if kind == 2 {
+    if kind == FLOATS {
         return float_effect(op, a, b);
     }
     double_effect(op, a, b, c, d)
 }
 
-// Whether an opcode from 153 on returns.
+// Whether an opcode from IFEQ on returns.
 fn is_return(op: u8) -> bool
     ensures { λ r. ⌜ r ≡ isReturn op ⌝ }
 {
-    if op < 172 {
+    if op < IRETURN {
         return false;
     }
-    op < 178
+    op <= RETURN
 }
 
-// Branches, switches, returns and WIDE: the opcodes from 153 on.
+// Branches, switches, returns and WIDE: the opcodes from IFEQ on.
 fn control_effect(op: u8, a: u32, b: u32) -> Effect
     requires { ⌜ isIn sharedOpcodes op ≡ true ⌝ }
     requires { ⌜ 153 ≤ op ⌝ }
     ensures { λ r. ⌜ ((constant c d : ℕ) → r ≡ effectAt op constant a b c d) ⌝ }
 {
-    if op == 196 {
+    if op == WIDE {
         return nothing();
     }
     if is_return(op) {
@@ -90,16 +98,16 @@ pub fn effect(op: u8, constant: u32, a: u32, b: u32, c: u32, d: u32) -> Effect
     requires { ⌜ isIn sharedOpcodes op ≡ true ⌝ }
     ensures { λ r. ⌜ r ≡ effectAt op constant a b c d ⌝ }
 {
-    if op < 96 {
+    if op < IADD {
         return plain_effect(op, constant, a, b, c, d);
     }
-    if op < 133 {
+    if op < I2L {
         return arithmetic_effect(op, constant, a, b, c, d);
     }
-    if op < 148 {
+    if op < LCMP {
         return conversion_effect(op, a, b);
     }
-    if op < 153 {
+    if op < IFEQ {
         return comparison_effect(op, a, b, c, d);
     }
     control_effect(op, a, b)

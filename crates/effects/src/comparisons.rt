@@ -5,6 +5,7 @@ use floats::dcmpg;
 use floats::dcmpl;
 use floats::fcmpg;
 use floats::fcmpl;
+use instructions::opcodes::*;
 use integers::join_words;
 use integers::lcmp;
 ghost use mathlib.Core.Path.{_≡_};
@@ -22,10 +23,10 @@ pub(crate) fn comparison_effect(op: u8, a: u32, b: u32, c: u32, d: u32) -> Effec
     let x = join_words(a, b);
     let y = join_words(c, d);
     match op {
-        148 => one(lcmp(x, y)), // LCMP
-        149 => one(fcmpl(a, b)), // FCMPL
-        150 => one(fcmpg(a, b)), // FCMPG
-        151 => one(dcmpl(x, y)), // DCMPL
+        LCMP => one(lcmp(x, y)),
+        FCMPL => one(fcmpl(a, b)),
+        FCMPG => one(fcmpg(a, b)),
+        DCMPL => one(dcmpl(x, y)),
         _ => one(dcmpg(x, y)), // DCMPG
     }
 }

@@ -12,6 +12,7 @@ use conversions::i2d;
 use conversions::i2f;
 use conversions::l2d;
 use conversions::l2f;
+use instructions::opcodes::*;
 use integers::i2b;
 use integers::i2c;
 use integers::i2l;
@@ -32,20 +33,20 @@ pub(crate) fn conversion_effect(op: u8, a: u32, b: u32) -> Effect
 {
     let x = join_words(a, b);
     match op {
-        133 => split(i2l(a)), // I2L
-        134 => one(i2f(a)), // I2F
-        135 => split(i2d(a)), // I2D
-        136 => one(l2i(x)), // L2I
-        137 => one(l2f(x)), // L2F
-        138 => split(l2d(x)), // L2D
-        139 => one(f2i(a)), // F2I
-        140 => split(f2l(a)), // F2L
-        141 => split(f2d(a)), // F2D
-        142 => one(d2i(x)), // D2I
-        143 => split(d2l(x)), // D2L
-        144 => one(d2f(x)), // D2F
-        145 => one(i2b(a)), // I2B
-        146 => one(i2c(a)), // I2C
+        I2L => split(i2l(a)),
+        I2F => one(i2f(a)),
+        I2D => split(i2d(a)),
+        L2I => one(l2i(x)),
+        L2F => one(l2f(x)),
+        L2D => split(l2d(x)),
+        F2I => one(f2i(a)),
+        F2L => split(f2l(a)),
+        F2D => split(f2d(a)),
+        D2I => one(d2i(x)),
+        D2L => split(d2l(x)),
+        D2F => one(d2f(x)),
+        I2B => one(i2b(a)),
+        I2C => one(i2c(a)),
         _ => one(i2s(a)), // I2S
     }
 }

@@ -7,6 +7,7 @@ use floats::dmul;
 use floats::dneg;
 use floats::drem;
 use floats::dsub;
+use instructions::opcodes::*;
 use integers::join_words;
 ghost use mathlib.Core.Path.{_≡_};
 ghost use mathlib.Core.Bool.{true};
@@ -23,11 +24,11 @@ pub(crate) fn double_effect(op: u8, a: u32, b: u32, c: u32, d: u32) -> Effect
     let x = join_words(a, b);
     let y = join_words(c, d);
     match op {
-        99 => split(dadd(x, y)), // DADD
-        103 => split(dsub(x, y)), // DSUB
-        107 => split(dmul(x, y)), // DMUL
-        111 => split(ddiv(x, y)), // DDIV
-        115 => split(drem(x, y)), // DREM
+        DADD => split(dadd(x, y)),
+        DSUB => split(dsub(x, y)),
+        DMUL => split(dmul(x, y)),
+        DDIV => split(ddiv(x, y)),
+        DREM => split(drem(x, y)),
         _ => split(dneg(x)), // DNEG
     }
 }

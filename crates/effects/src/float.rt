@@ -7,6 +7,7 @@ use floats::fmul;
 use floats::fneg;
 use floats::frem;
 use floats::fsub;
+use instructions::opcodes::*;
 ghost use mathlib.Core.Path.{_≡_};
 ghost use mathlib.Core.Bool.{true};
 ghost use Prim.Native.Nat.{ℕ};
@@ -20,11 +21,11 @@ pub(crate) fn float_effect(op: u8, a: u32, b: u32) -> Effect
     ensures { λ r. ⌜ ((constant c d : ℕ) → r ≡ effectAt op constant a b c d) ⌝ }
 {
     match op {
-        98 => one(fadd(a, b)), // FADD
-        102 => one(fsub(a, b)), // FSUB
-        106 => one(fmul(a, b)), // FMUL
-        110 => one(fdiv(a, b)), // FDIV
-        114 => one(frem(a, b)), // FREM
+        FADD => one(fadd(a, b)),
+        FSUB => one(fsub(a, b)),
+        FMUL => one(fmul(a, b)),
+        FDIV => one(fdiv(a, b)),
+        FREM => one(frem(a, b)),
         _ => one(fneg(a)), // FNEG
     }
 }

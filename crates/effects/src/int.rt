@@ -3,8 +3,10 @@ use crate::divisions::int_quotient;
 use crate::divisions::int_remainder;
 use crate::outcome::Effect;
 use crate::outcome::one;
+use instructions::opcodes::*;
 use integers::iadd;
 use integers::iand;
+use integers::iinc;
 use integers::imul;
 use integers::ineg;
 use integers::ior;
@@ -26,18 +28,18 @@ pub(crate) fn int_effect(op: u8, constant: u32, a: u32, b: u32) -> Effect
     ensures { λ r. ⌜ ((c d : ℕ) → r ≡ effectAt op constant a b c d) ⌝ }
 {
     match op {
-        96 => one(iadd(a, b)), // IADD
-        100 => one(isub(a, b)), // ISUB
-        104 => one(imul(a, b)), // IMUL
-        108 => int_quotient(a, b), // IDIV
-        112 => int_remainder(a, b), // IREM
-        116 => one(ineg(a)), // INEG
-        120 => one(ishl(a, b)), // ISHL
-        122 => one(ishr(a, b)), // ISHR
-        124 => one(iushr(a, b)), // IUSHR
-        126 => one(iand(a, b)), // IAND
-        128 => one(ior(a, b)), // IOR
-        130 => one(ixor(a, b)), // IXOR
-        _ => one(iadd(a, constant)), // IINC
+        IADD => one(iadd(a, b)),
+        ISUB => one(isub(a, b)),
+        IMUL => one(imul(a, b)),
+        IDIV => int_quotient(a, b),
+        IREM => int_remainder(a, b),
+        INEG => one(ineg(a)),
+        ISHL => one(ishl(a, b)),
+        ISHR => one(ishr(a, b)),
+        IUSHR => one(iushr(a, b)),
+        IAND => one(iand(a, b)),
+        IOR => one(ior(a, b)),
+        IXOR => one(ixor(a, b)),
+        _ => one(iinc(a, constant)), // IINC
     }
 }

@@ -3,6 +3,7 @@ use crate::divisions::long_quotient;
 use crate::divisions::long_remainder;
 use crate::outcome::Effect;
 use crate::outcome::split;
+use instructions::opcodes::*;
 use integers::join_words;
 use integers::ladd;
 use integers::land;
@@ -29,17 +30,17 @@ pub(crate) fn long_effect(op: u8, a: u32, b: u32, c: u32, d: u32) -> Effect
     let x = join_words(a, b);
     let y = join_words(c, d);
     match op {
-        97 => split(ladd(x, y)), // LADD
-        101 => split(lsub(x, y)), // LSUB
-        105 => split(lmul(x, y)), // LMUL
-        109 => long_quotient(x, y), // LDIV
-        113 => long_remainder(x, y), // LREM
-        117 => split(lneg(x)), // LNEG
-        121 => split(lshl(x, c)), // LSHL
-        123 => split(lshr(x, c)), // LSHR
-        125 => split(lushr(x, c)), // LUSHR
-        127 => split(land(x, y)), // LAND
-        129 => split(lor(x, y)), // LOR
+        LADD => split(ladd(x, y)),
+        LSUB => split(lsub(x, y)),
+        LMUL => split(lmul(x, y)),
+        LDIV => long_quotient(x, y),
+        LREM => long_remainder(x, y),
+        LNEG => split(lneg(x)),
+        LSHL => split(lshl(x, c)),
+        LSHR => split(lshr(x, c)),
+        LUSHR => split(lushr(x, c)),
+        LAND => split(land(x, y)),
+        LOR => split(lor(x, y)),
         _ => split(lxor(x, y)), // LXOR
     }
 }

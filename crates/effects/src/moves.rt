@@ -2,6 +2,7 @@
 use crate::outcome::Effect;
 use crate::outcome::one;
 use crate::outcome::two;
+use instructions::opcodes::*;
 ghost use mathlib.Core.Path.{_≡_};
 ghost use mathlib.Core.Bool.{true};
 ghost use Prim.Native.Nat.{ℕ};
@@ -15,11 +16,11 @@ pub(crate) fn move_effect(op: u8, a: u32, b: u32) -> Effect
     ensures { λ r. ⌜ ((constant c d : ℕ) → r ≡ effectAt op constant a b c d) ⌝ }
 {
     match op {
-        18 => one(a), // LDC, LDC_W
-        20 => two(a, b), // LDC2_W
-        21 => one(a), // the loads of one word
-        22 => two(a, b), // the loads of two words
-        54 => one(a), // the stores of one word
+        LDC => one(a), // and LDC_W
+        LDC2_W => two(a, b),
+        ILOAD => one(a), // the loads of one word
+        LLOAD => two(a, b), // the loads of two words
+        ISTORE => one(a), // the stores of one word
         _ => two(a, b), // the stores of two words
     }
 }

@@ -1,5 +1,6 @@
 // Returns (JVMS 2.11.8).
 use crate::outcome::Effect;
+use instructions::opcodes::*;
 use integers::join_words;
 use values::Value;
 ghost use mathlib.Core.Path.{_≡_};
@@ -16,11 +17,11 @@ pub(crate) fn return_effect(op: u8, a: u32, b: u32) -> Effect
 {
     let x = join_words(a, b);
     match op {
-        172 => Effect::Return(Value::Int(a)), // IRETURN
-        173 => Effect::Return(Value::Long(x)), // LRETURN
-        174 => Effect::Return(Value::Float(a)), // FRETURN
-        175 => Effect::Return(Value::Double(x)), // DRETURN
-        176 => Effect::Return(Value::Reference(a)), // ARETURN
+        IRETURN => Effect::Return(Value::Int(a)),
+        LRETURN => Effect::Return(Value::Long(x)),
+        FRETURN => Effect::Return(Value::Float(a)),
+        DRETURN => Effect::Return(Value::Double(x)),
+        ARETURN => Effect::Return(Value::Reference(a)),
         _ => Effect::Return(Value::Void), // RETURN
     }
 }

@@ -3,6 +3,7 @@ use crate::outcome::Effect;
 use crate::outcome::nothing;
 use crate::outcome::two;
 use crate::outcome::words;
+use instructions::opcodes::*;
 ghost use mathlib.Core.Path.{_≡_};
 ghost use mathlib.Core.Bool.{true};
 ghost use Prim.Native.Nat.{ℕ};
@@ -16,14 +17,14 @@ pub(crate) fn stack_effect(op: u8, a: u32, b: u32, c: u32, d: u32) -> Effect
     ensures { λ r. ⌜ ((constant : ℕ) → r ≡ effectAt op constant a b c d) ⌝ }
 {
     match op {
-        87 => nothing(), // POP
-        88 => nothing(), // POP2
-        89 => two(a, a), // DUP
-        90 => words(b, a, b, 0, 0, 0), // DUP_X1
-        91 => words(c, a, b, c, 0, 0), // DUP_X2
-        92 => words(a, b, a, b, 0, 0), // DUP2
-        93 => words(b, c, a, b, c, 0), // DUP2_X1
-        94 => words(c, d, a, b, c, d), // DUP2_X2
+        POP => nothing(),
+        POP2 => nothing(),
+        DUP => two(a, a),
+        DUP_X1 => words(b, a, b, 0, 0, 0),
+        DUP_X2 => words(c, a, b, c, 0, 0),
+        DUP2 => words(a, b, a, b, 0, 0),
+        DUP2_X1 => words(b, c, a, b, c, 0),
+        DUP2_X2 => words(c, d, a, b, c, d),
         _ => two(b, a), // SWAP
     }
 }

@@ -5,18 +5,18 @@ use mathlib.Core.Bool.{Bool, true, false, _&&_}
 use mathlib.Core.List.{List}
 use Rattle.values.specs.Kinds.{Kind, int, long, float, double, reference, any, placesOf}
 use Rattle.rules.specs.declared.State.{State}
-use Rattle.rules.specs.Check.{Check, passed, refused, _else_, _>>_}
+use Rattle.rules.specs.Check.{Check, passed, refused, _>>_}
 use Rattle.rules.specs.Instructions.{rowOf}
 use Rattle.rules.specs.Fetch.{Instruction}
-use Rattle.rules.specs.Questions.{Method, popped, pushed, localsBelow, constantThere, needsCheck}
+use Rattle.rules.specs.Questions.{Method, popped, pushed, localsBelow, constantCheck, needsCheck}
 use Rattle.rules.specs.Step.{base}
 use Rattle.rules.proofs.Fetched.{Sound}
 use Rattle.rules.proofs.Rows.{of-row, small, small-row, OneLocal, no-local, one-local, one-named}
-use Rattle.instructions.specs.Table.{entryOf}
+use Rattle.instructions.specs.Table.{entryOf, popsIn, pushesIn, localsIn}
 use Rattle.instructions.proofs.Entries.{digits}
 use Rattle.frame.specs.declared.places.Placed.{Placed}
 use Rattle.frame.specs.declared.places.Placed.the-variants.{At, Refused}
-use Rattle.frame.specs.Place.{popsIn, pushesIn, localsIn, localThere, placeCheck, answer, placeOf}
+use Rattle.frame.specs.Place.{localThere, placeCheck, answer, placeOf}
 
 and-yes : (t : Bool) → (t && true) ≡ t
 and-yes true = refl
@@ -37,12 +37,12 @@ in-turn (passed t) y z = refl
 in-turn (refused n) y z = refl
 
 -- question 9
-abbrev pub constantCheck : Method → Instruction → Check (Unit {0})
-constantCheck l i = constantThere (l .kinds) (i .operand .index) (i .rule .constants) else 10
+abbrev pub poolAsked : Method → Instruction → Check (Unit {0})
+poolAsked l i = constantCheck (l .kinds) (i .operand .index) (i .rule .constants)
 
 -- what an answer to questions 6 to 8 says of all needs, of the first place and of the new depth
 pub record Stands (l : Method) (s : State) (i : Instruction) (first depth : ℕ) : Type 0 where
-  pub asked : needsCheck l s i ≡ constantCheck l i
+  pub asked : needsCheck l s i ≡ poolAsked l i
   pub based : base s i ≡ first
   pub deep : s .depth - popped i + pushed i ≡ depth
 
@@ -67,11 +67,11 @@ module _ (code : List ℕ) (pc : ℕ) (i : Instruction) (t : Sound code pc i) wh
         rw locals-in (one-local-below (s .«max_locals») (i .operand .index) {ks = i .rule .locals} (rw (t .ruled) (one-named (t .row .rule) few)))
 
     module _ (l : Method) where
-      pub needs-by-entry : needsCheck l s i ≡ (placeCheck (entryOf (rowOf (i .opcode))) (i .operand .index) s >> constantCheck l i)
+      pub needs-by-entry : needsCheck l s i ≡ (placeCheck (entryOf (rowOf (i .opcode))) (i .operand .index) s >> poolAsked l i)
       unfolding needsCheck placeCheck
       needs-by-entry = rw (popped-in, pushed-in, local-below) (simp in-turn)
 
-      answer-says : (x : Check (Unit {0})) → needsCheck l s i ≡ (x >> constantCheck l i) → Says l s i (answer (entryOf (rowOf (i .opcode))) s x)
+      answer-says : (x : Check (Unit {0})) → needsCheck l s i ≡ (x >> poolAsked l i) → Says l s i (answer (entryOf (rowOf (i .opcode))) s x)
       unfolding _>>_
       answer-says (passed u) e = record {
         asked = e;

@@ -1,14 +1,13 @@
 -- Words written one by one, and into a part of a list that is lent on. Assumes nothing.
-use Prim.Native.Nat.{ℕ, suc, _+_, _-_, _≤_, _<_}
+use Prim.Native.Nat.{ℕ, _+_, _-_, _≤_, _<_}
 use mathlib.Core.Path.{_≡_, sym, ap, _∙_}
 use mathlib.Core.List.{List, [], _∷_, _++_, append-assoc}
 use native.Mathlib.Omega.{arith}
-use native.Mathlib.Numerals.{add-one}
 use native.Mathlib.Nat.{add-assoc, add-zero}
 use borrow.Rule.Slice.PartMut.{putMid}
 use lib.Dec.{lit≤}
-use lib.ListN.{length, take, drop, getD, set, take-append-drop, length-drop}
-use lib.Seq.{paste, paste-zero, paste-suc, length-take-le, take-append-add, drop-append-add, drop-cons}
+use lib.ListN.{length, take, drop, set, take-append-drop, length-drop}
+use lib.Seq.{paste, paste-zero, paste-suc, length-take-le, take-append-add, drop-append-add}
 use Rattle.rules.proofs.Pasted.{paste-left}
 
 -- ---- one by one
@@ -24,16 +23,6 @@ pub two-written : (l : List ℕ) (at a b : ℕ) → at + 2 ≤ length l → set 
 two-written l at a b h =
     let h₁ : at + 1 < length l = omega arith in
     ap (λ (k : List ℕ). set k (at + 1) b) (one-written l at a (omega arith)) ∙ paste-suc l at (a ∷ b ∷ []) 1 0 h₁ (lit≤ tt)
-
--- from another place of the same list
-pub one-copied : (l : List ℕ) (at i : ℕ) → i < length l → paste l at (getD l i 0 ∷ []) 1 ≡ paste l at (drop i l) 1
-one-copied l at i h = rw (drop-cons l i 0 h)
-
-pub two-copied : (l : List ℕ) (at i : ℕ) → i + 2 ≤ length l → paste l at (getD l i 0 ∷ getD l (i + 1) 0 ∷ []) 2 ≡ paste l at (drop i l) 2
-two-copied l at i h =
-    let h₀ : i < length l = omega arith in
-    let h₁ : suc i < length l = omega arith in
-    rw (add-one, drop-cons l i 0 h₀, drop-cons l (suc i) 0 h₁)
 
 -- ---- into a part
 

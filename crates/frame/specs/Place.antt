@@ -1,19 +1,11 @@
 -- Questions 6 to 8 from the digits of an entry of the table, and where an instruction then stands on the stack. Assumes nothing.
-use Prim.Native.Nat.{ℕ, _+_, _-_, _/_, _%_}
+use Prim.Native.Nat.{ℕ, _+_, _-_}
 use mathlib.Core.Bool.{Bool, _||_}
 use Rattle.rules.specs.declared.State.{State}
 use Rattle.rules.specs.Check.{Check, passed, refused, _else_, _>>_, _≤ⁿ_, _=ⁿ_}
+use Rattle.instructions.specs.Table.{popsIn, pushesIn, localsIn}
 use Rattle.frame.specs.declared.places.Placed.{Placed}
 use Rattle.frame.specs.declared.places.Placed.the-variants.{At, Refused}
-
-abbrev pub popsIn : ℕ → ℕ
-popsIn entry = entry / 0x100 % 16
-
-abbrev pub pushesIn : ℕ → ℕ
-pushesIn entry = entry / 0x1000 % 16
-
-abbrev pub localsIn : ℕ → ℕ
-localsIn entry = entry / 0x10000 % 16
 
 -- all places of a local are below the limit; a local of no places is none
 abbrev pub localThere : ℕ → ℕ → ℕ → Bool

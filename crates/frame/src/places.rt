@@ -1,4 +1,7 @@
 // Questions 6 to 8: what an instruction needs of the stack and of the locals, from its entry in the table.
+use instructions::locals_in;
+use instructions::pops_in;
+use instructions::pushes_in;
 use rules::State;
 ghost use mathlib.Core.Path.{_≡_};
 ghost use Rattle.frame.specs.Place.{localThere, placeOf};
@@ -23,9 +26,9 @@ fn local_there(places: u32, index: u32, limit: u16) -> bool
 pub fn place(entry: u32, index: u32, s: State) -> Placed
     ensures { λ r. ⌜ r ≡ placeOf entry index s ⌝ }
 {
-    let pops = entry / 0x100 % 16;
-    let pushes = entry / 0x1000 % 16;
-    let locals = entry / 0x10000 % 16;
+    let pops = pops_in(entry);
+    let pushes = pushes_in(entry);
+    let locals = locals_in(entry);
     if s.depth < pops {
         return Placed::Refused(7);
     }

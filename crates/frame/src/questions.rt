@@ -6,6 +6,11 @@ ghost use lib.ListN.{length};
 ghost use Rattle.rules.specs.Questions.{method, frameCheck};
 ghost use Rattle.rules.specs.Answers.{checked};
 
+// The most entries of a pool, and the most bytes of a code (JVMS 4.1, 4.7.3).
+const MAX_POOL: usize = 65536;
+
+const MAX_CODE: usize = 65535;
+
 // Questions 1 to 3.
 pub fn check_frame(code: &[u8], kinds: &[u8], words: &[u32], slots: &[u32], s: State) -> Checked
     ensures { λ r. ⌜ r ≡ checked (frameCheck (method (now (code .entry)) (now (kinds .entry)) (now (words .entry))) s (length (now (slots .entry)))) ⌝ }
@@ -13,7 +18,7 @@ pub fn check_frame(code: &[u8], kinds: &[u8], words: &[u32], slots: &[u32], s: S
     if kinds.len() != words.len() {
         return Checked::Refused(1);
     }
-    if kinds.len() > 65536 {
+    if kinds.len() > MAX_POOL {
         return Checked::Refused(1);
     }
     if slots.len() < s.max_locals as usize + s.max_stack as usize {
@@ -22,7 +27,7 @@ pub fn check_frame(code: &[u8], kinds: &[u8], words: &[u32], slots: &[u32], s: S
     if code.len() < 1 {
         return Checked::Refused(2);
     }
-    if code.len() > 65535 {
+    if code.len() > MAX_CODE {
         return Checked::Refused(2);
     }
     if code.len() <= s.pc as usize {

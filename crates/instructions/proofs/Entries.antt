@@ -1,5 +1,5 @@
 -- What the digits of an entry of the table are. Assumes nothing.
-use Prim.Native.Nat.{ℕ, _/_, _%_}
+use Prim.Native.Nat.{ℕ}
 use mathlib.Core.Path.{_≡_, refl}
 use mathlib.Core.Bool.{Bool, true, _&&_}
 use mathlib.Core.Option.{some}
@@ -11,7 +11,7 @@ use Rattle.rules.specs.Forms.{Row, Format, alone, implied, byte, short, index, 
 use Rattle.rules.specs.Instructions.{instructions, rowOf}
 use Rattle.rules.proofs.Check.{and-true}
 use Rattle.rules.proofs.Rows.{OfRow, every-row, of-row}
-use Rattle.instructions.specs.Table.{lengthOf, formatOf, sharedOf, entryOf}
+use Rattle.instructions.specs.Table.{lengthOf, formatOf, sharedOf, entryOf, lengthIn, popsIn, pushesIn, localsIn, formatIn, sharedIn}
 
 -- each number has room in its digits, and an implied index is below 4: computed over the table
 abbrev pub impliedFew : Format → Bool
@@ -38,12 +38,12 @@ unfolding instructions fitting
 fitting-row n = every-row fitting (λ r. true) refl n
 
 pub record Digits (r : Row) : Type 0 where
-  pub length : entryOf (some r) % 0x100 ≡ lengthOf (r .format)
-  pub pops : entryOf (some r) / 0x100 % 16 ≡ placesOf (r .rule .takes)
-  pub pushes : entryOf (some r) / 0x1000 % 16 ≡ placesOf (r .rule .gives)
-  pub locals : entryOf (some r) / 0x10000 % 16 ≡ placesOf (r .rule .locals)
-  pub format : entryOf (some r) / 0x100000 % 16 ≡ formatOf (r .format)
-  pub shared : entryOf (some r) / 0x1000000 ≡ sharedOf r
+  pub length : lengthIn (entryOf (some r)) ≡ lengthOf (r .format)
+  pub pops : popsIn (entryOf (some r)) ≡ placesOf (r .rule .takes)
+  pub pushes : pushesIn (entryOf (some r)) ≡ placesOf (r .rule .gives)
+  pub locals : localsIn (entryOf (some r)) ≡ placesOf (r .rule .locals)
+  pub format : formatIn (entryOf (some r)) ≡ formatOf (r .format)
+  pub shared : sharedIn (entryOf (some r)) ≡ sharedOf r
   pub few : impliedFew (r .format) ≡ true
 
 digits-of : (r : Row) → fitting r ≡ true → Digits r

@@ -1,5 +1,5 @@
 -- The stages of decoding, on the entry of a row, give what questions 4 and 5 give. Assumes nothing.
-use Prim.Native.Nat.{ℕ, zero, suc, _+_, _/_, _%_, _<_}
+use Prim.Native.Nat.{ℕ, zero, suc, _+_, _<_}
 use mathlib.Core.Path.{_≡_, refl, sym, ap, ap₂, _∙_}
 use mathlib.Core.Bool.{Bool, true, false, cond}
 use mathlib.Core.List.{List, [], map}
@@ -20,7 +20,7 @@ use Rattle.operands.specs.declared.switches.Switch.{Switch}
 use Rattle.operands.specs.Switch.{switchOf}
 use Rattle.instructions.specs.declared.decoding.Decoded.{Decoded}
 use Rattle.instructions.specs.declared.decoding.Decoded.the-variants as Decoded
-use Rattle.instructions.specs.Table.{lengthOf, formatOf, entryOf}
+use Rattle.instructions.specs.Table.{lengthOf, formatOf, entryOf, lengthIn, formatIn}
 use Rattle.instructions.specs.Decode.{decoded}
 use Rattle.instructions.specs.Stages.{fields, fieldsOf, sizedOf, switchDecoded}
 use Rattle.instructions.proofs.Entries.{digits, impliedFew}
@@ -101,8 +101,8 @@ module _ (code : List ℕ) (pc : ℕ) where
   record OfRow (r : Row) : Type 0 where
     at : rowOf (u8 code pc) ≡ some r
     class-of : Class code pc here r (r .format)
-    length-is : here % 0x100 ≡ lengthOf (r .format)
-    format-is : here / 0x100000 % 16 ≡ formatOf (r .format)
+    length-is : lengthIn here ≡ lengthOf (r .format)
+    format-is : formatIn here ≡ formatOf (r .format)
 
   cases : (P : Type 0) → (rowOf (u8 code pc) ≡ none → P) → ((r : Row) → OfRow r → P) → P
   cases P outside inside = go (rowOf (u8 code pc)) refl
@@ -114,64 +114,64 @@ module _ (code : List ℕ) (pc : ℕ) where
           inside r (record {
             at = e;
             class-of = class code pc here r (owned r e) (r .format) (d .few);
-            length-is = ap (λ (o : Option Row). entryOf o % 0x100) e ∙ d .length;
-            format-is = ap (λ (o : Option Row). entryOf o / 0x100000 % 16) e ∙ d .format;
+            length-is = ap (λ (o : Option Row). lengthIn (entryOf o)) e ∙ d .length;
+            format-is = ap (λ (o : Option Row). formatIn (entryOf o)) e ∙ d .format;
           })
 
-  outside-length : rowOf (u8 code pc) ≡ none → here % 0x100 ≡ 255
+  outside-length : rowOf (u8 code pc) ≡ none → lengthIn here ≡ 255
   unfolding entryOf
-  outside-length e = ap (λ (o : Option Row). entryOf o % 0x100) e
+  outside-length e = ap (λ (o : Option Row). lengthIn (entryOf o)) e
 
   same : (r : Row) → OfRow r → {d : Decoded} → d ≡ decoded (byFormat code pc r (r .format)) → d ≡ decoded (fetched code pc)
   same r o p = p ∙ ap decoded (sym (of-core code pc r (o .at)))
 
-  pub no-instruction : here % 0x100 ≡ 255 → Decoded.Refused 4 ≡ decoded (fetched code pc)
+  pub no-instruction : lengthIn here ≡ 255 → Decoded.Refused 4 ≡ decoded (fetched code pc)
   unfolding decoded
   no-instruction h = cases _ (λ e. ap decoded (sym (not-core code pc e))) (λ r o. go r (o .length-is) (o .class-of))
     where
-      go : (r : Row) → here % 0x100 ≡ lengthOf (r .format) → Class code pc here r (r .format) → Decoded.Refused 4 ≡ decoded (fetched code pc)
+      go : (r : Row) → lengthIn here ≡ lengthOf (r .format) → Class code pc here r (r .format) → Decoded.Refused 4 ≡ decoded (fetched code pc)
       go r l (of-fixed-length a b s) = absurd (omega arith)
       go r l (of-table a b s) = absurd (omega arith)
       go r l (of-pairs a b s) = absurd (omega arith)
       go r l (of-wide a s) = absurd (omega arith)
 
-  pub wide-instruction : here % 0x100 ≡ 254 → decoded (wideCheck code pc) ≡ decoded (fetched code pc)
+  pub wide-instruction : lengthIn here ≡ 254 → decoded (wideCheck code pc) ≡ decoded (fetched code pc)
   wide-instruction h = cases _ (λ e. let z = outside-length e in absurd (omega arith)) (λ r o. same r o (go r (o .length-is) (o .class-of)))
     where
-      go : (r : Row) → here % 0x100 ≡ lengthOf (r .format) → Class code pc here r (r .format) → decoded (wideCheck code pc) ≡ decoded (byFormat code pc r (r .format))
+      go : (r : Row) → lengthIn here ≡ lengthOf (r .format) → Class code pc here r (r .format) → decoded (wideCheck code pc) ≡ decoded (byFormat code pc r (r .format))
       go r l (of-fixed-length a b s) = absurd (omega arith)
       go r l (of-table a b s) = absurd (omega arith)
       go r l (of-pairs a b s) = absurd (omega arith)
       go r l (of-wide a s) = s
 
-  pub table-instruction : (x : Switch) → ((row : Row) → x ≡ switchOf (tableCheck code pc row)) → here % 0x100 ≡ 0 → here / 0x100000 % 16 ≡ 11
+  pub table-instruction : (x : Switch) → ((row : Row) → x ≡ switchOf (tableCheck code pc row)) → lengthIn here ≡ 0 → formatIn here ≡ 11
       → switchDecoded here x ≡ decoded (fetched code pc)
   table-instruction x p h f = cases _ (λ e. let z = outside-length e in absurd (omega arith)) (λ r o. same r o (go r (o .length-is) (o .format-is) (o .class-of)))
     where
-      go : (r : Row) → here % 0x100 ≡ lengthOf (r .format) → here / 0x100000 % 16 ≡ formatOf (r .format) → Class code pc here r (r .format)
+      go : (r : Row) → lengthIn here ≡ lengthOf (r .format) → formatIn here ≡ formatOf (r .format) → Class code pc here r (r .format)
           → switchDecoded here x ≡ decoded (byFormat code pc r (r .format))
       go r l k (of-fixed-length a b s) = absurd (omega arith)
       go r l k (of-table a b s) = ap (switchDecoded here) (p r) ∙ s
       go r l k (of-pairs a b s) = absurd (omega arith)
       go r l k (of-wide a s) = absurd (omega arith)
 
-  pub lookup-instruction : (x : Switch) → ((row : Row) → x ≡ switchOf (lookupCheck code pc row)) → here % 0x100 ≡ 0 → (here / 0x100000 % 16 ≡ 11 → ⊥)
+  pub lookup-instruction : (x : Switch) → ((row : Row) → x ≡ switchOf (lookupCheck code pc row)) → lengthIn here ≡ 0 → (formatIn here ≡ 11 → ⊥)
       → switchDecoded here x ≡ decoded (fetched code pc)
   lookup-instruction x p h f = cases _ (λ e. let z = outside-length e in absurd (omega arith)) (λ r o. same r o (go r (o .length-is) (o .format-is) (o .class-of)))
     where
-      go : (r : Row) → here % 0x100 ≡ lengthOf (r .format) → here / 0x100000 % 16 ≡ formatOf (r .format) → Class code pc here r (r .format)
+      go : (r : Row) → lengthIn here ≡ lengthOf (r .format) → formatIn here ≡ formatOf (r .format) → Class code pc here r (r .format)
           → switchDecoded here x ≡ decoded (byFormat code pc r (r .format))
       go r l k (of-fixed-length a b s) = absurd (omega arith)
       go r l k (of-table a b s) = absurd (f (k ∙ b))
       go r l k (of-pairs a b s) = ap (switchDecoded here) (p r) ∙ s
       go r l k (of-wide a s) = absurd (omega arith)
 
-  pub fixed-instruction : (here % 0x100 ≡ 255 → ⊥) → (here % 0x100 ≡ 254 → ⊥) → (here % 0x100 ≡ 0 → ⊥)
-      → sizedOf code pc here (here % 0x100) (fieldsOf code pc (here / 0x100000 % 16)) ≡ decoded (fetched code pc)
+  pub fixed-instruction : (lengthIn here ≡ 255 → ⊥) → (lengthIn here ≡ 254 → ⊥) → (lengthIn here ≡ 0 → ⊥)
+      → sizedOf code pc here (lengthIn here) (fieldsOf code pc (formatIn here)) ≡ decoded (fetched code pc)
   fixed-instruction h i j = cases _ (λ e. absurd (h (outside-length e))) (λ r o. same r o (go r (o .length-is) (o .format-is) (o .class-of)))
     where
-      go : (r : Row) → here % 0x100 ≡ lengthOf (r .format) → here / 0x100000 % 16 ≡ formatOf (r .format) → Class code pc here r (r .format)
-          → sizedOf code pc here (here % 0x100) (fieldsOf code pc (here / 0x100000 % 16)) ≡ decoded (byFormat code pc r (r .format))
+      go : (r : Row) → lengthIn here ≡ lengthOf (r .format) → formatIn here ≡ formatOf (r .format) → Class code pc here r (r .format)
+          → sizedOf code pc here (lengthIn here) (fieldsOf code pc (formatIn here)) ≡ decoded (byFormat code pc r (r .format))
       go r l k (of-fixed-length a b s) = ap₂ (λ (n f : ℕ). sizedOf code pc here n (fieldsOf code pc f)) l k ∙ s
       go r l k (of-table a b s) = absurd (j (l ∙ a))
       go r l k (of-pairs a b s) = absurd (j (l ∙ a))

@@ -1,5 +1,5 @@
 -- What the step reads of an instruction's row, packed into one number: the table that the step uses. Assumes nothing.
-use Prim.Native.Nat.{ℕ, _+_, _*_}
+use Prim.Native.Nat.{ℕ, _+_, _*_, _/_, _%_}
 use mathlib.Core.Bool.{Bool, false, _&&_, _||_, cond}
 use mathlib.Core.List.{List, [], _∷_}
 use mathlib.Core.Option.{Option, none, some}
@@ -62,3 +62,23 @@ unfoldable pub entryOf : Option Row → ℕ
 entryOf none = 255
 entryOf (some r) =
     packed (lengthOf (r .format)) (placesOf (r .rule .takes)) (placesOf (r .rule .gives)) (placesOf (r .rule .locals)) (formatOf (r .format)) (sharedOf r)
+
+-- the digits read back
+
+abbrev pub lengthIn : ℕ → ℕ
+lengthIn entry = entry % 0x100
+
+abbrev pub popsIn : ℕ → ℕ
+popsIn entry = entry / 0x100 % 16
+
+abbrev pub pushesIn : ℕ → ℕ
+pushesIn entry = entry / 0x1000 % 16
+
+abbrev pub localsIn : ℕ → ℕ
+localsIn entry = entry / 0x10000 % 16
+
+abbrev pub formatIn : ℕ → ℕ
+formatIn entry = entry / 0x100000 % 16
+
+abbrev pub sharedIn : ℕ → ℕ
+sharedIn entry = entry / 0x1000000

@@ -1,5 +1,6 @@
 // Questions 4 and 5: the instruction at an offset of the code.
-use crate::table::entry;
+use crate::opcodes::*;
+use crate::table::*;
 use operands::Switch;
 use operands::lookup_switch;
 use operands::read_code_i8;
@@ -13,6 +14,11 @@ ghost use Prim.Native.Nat.{_+_, _<_};
 ghost use Rattle.rules.specs.Fetch.{fetched, widens, wideCheck};
 ghost use Rattle.instructions.specs.Decode.{decoded};
 ghost use Rattle.instructions.specs.Stages.{fieldsOf, sizedOf, switchDecoded};
+
+// The lengths of what WIDE takes: with an index of 16 bits, and with a constant of 16 bits too.
+const WIDE_LENGTH: usize = 4;
+
+const WIDE_IINC_LENGTH: usize = 6;
 
 // An instruction, or the number of the question that refuses it.
 pub enum Decoded {
@@ -36,35 +42,35 @@ fn operand_fields(code: &[u8], pc: u32, format: u32) -> Fields
     ensures { λ r. ⌜ r ≡ fieldsOf (now (code .entry)) pc format ⌝ }
 {
     let at = pc as usize;
-    if format == 0 {
+    if format == FORMAT_ALONE {
         return Fields {
             index: 0,
             constant: 0,
         };
     }
-    if format < 5 {
+    if format < FORMAT_BYTE {
         return Fields {
-            index: format - 1,
+            index: format - FORMAT_IMPLIED,
             constant: 0,
         };
     }
-    if format == 5 {
+    if format == FORMAT_BYTE {
         let constant = read_code_i8(code, at + 1);
         return Fields { index: 0, constant };
     }
-    if format == 6 {
+    if format == FORMAT_SHORT {
         let constant = read_code_i16(code, at + 1);
         return Fields { index: 0, constant };
     }
-    if format == 7 {
+    if format == FORMAT_INDEX {
         let index = read_code_u8(code, at + 1) as u32;
         return Fields { index, constant: 0 };
     }
-    if format == 8 {
+    if format == FORMAT_INDEX2 {
         let index = read_code_u16(code, at + 1) as u32;
         return Fields { index, constant: 0 };
     }
-    if format == 9 {
+    if format == FORMAT_INDEX_CONST {
         let index = read_code_u8(code, at + 1) as u32;
         let constant = read_code_i8(code, at + 2);
         return Fields { index, constant };
@@ -93,19 +99,19 @@ fn sized(code: &[u8], pc: u32, entry: u32, size: usize, fields: Fields) -> Decod
 fn is_widened(opcode: u8) -> bool
     ensures { λ r. ⌜ r ≡ widens opcode ⌝ }
 {
-    if opcode < 21 {
+    if opcode < ILOAD {
         return false;
     }
-    if opcode <= 25 {
+    if opcode <= ALOAD {
         return true;
     }
-    if opcode < 54 {
+    if opcode < ISTORE {
         return false;
     }
-    if opcode <= 58 {
+    if opcode <= ASTORE {
         return true;
     }
-    opcode == 132
+    opcode == IINC
 }
 
 // WIDE: an instruction with its operands at twice the size.
@@ -122,11 +128,11 @@ fn wide(code: &[u8], pc: u32) -> Decoded
     }
     let index = read_code_u16(code, at + 2) as u32;
     let row = entry(opcode);
-    if opcode == 132 {
+    if opcode == IINC {
         let constant = read_code_i16(code, at + 4);
-        return sized(code, pc, row, 6, Fields { index, constant });
+        return sized(code, pc, row, WIDE_IINC_LENGTH, Fields { index, constant });
     }
-    sized(code, pc, row, 4, Fields { index, constant: 0 })
+    sized(code, pc, row, WIDE_LENGTH, Fields { index, constant: 0 })
 }
 
 // An accepted switch as an instruction.
@@ -149,16 +155,16 @@ pub fn decode(code: &[u8], pc: u32) -> Decoded
     ensures { λ r. ⌜ r ≡ decoded (fetched (now (code .entry)) pc) ⌝ }
 {
     let row = entry(read_code_u8(code, pc as usize));
-    let length = row % 0x100;
-    let format = row / 0x10_0000 % 0x10;
-    if length == 255 {
+    let length = length_in(row);
+    let format = format_in(row);
+    if length == LENGTH_NONE {
         return Decoded::Refused(4);
     }
-    if length == 254 {
+    if length == LENGTH_WIDE {
         return wide(code, pc);
     }
-    if length == 0 {
-        if format == 11 {
+    if length == LENGTH_SWITCH {
+        if format == FORMAT_TABLE {
             return switched(row, table_switch(code, pc));
         }
         return switched(row, lookup_switch(code, pc));

@@ -4,10 +4,8 @@ ghost use Prim.Native.Nat.{_-_, _/_, _%_, _^_, _<_};
 ghost use lib.IntN.{pos, negℤ, natAbs, _+ℤ_, _-ℤ_, _*ℤ_};
 ghost use lib.Signed.{quotZ, remZ, shrZ};
 ghost use Rattle.values.specs.Kinds.{int};
-ghost use Rattle.values.specs.Integers.{signed, low, bitwise, and, or, xor};
+ghost use Rattle.values.specs.Integers.{low, bitwise, and, or, xor};
 ghost use Rattle.values.specs.Words.{bits, meaning};
-use crate::narrow::extended8;
-use crate::narrow::extended16;
 
 // IADD: a + b.
 pub fn iadd(a: u32, b: u32) -> u32
@@ -121,16 +119,9 @@ pub fn ixor(a: u32, b: u32) -> u32
     a ^ b
 }
 
-// IINC: the sum with its constant of 8 bits and a sign.
-pub fn iinc(a: u32, constant: u8) -> u32
-    ensures { λ r. ⌜ r ≡ bits int (meaning int a +ℤ signed 7 constant) ⌝ }
+// IINC: the sum with its constant.
+pub fn iinc(a: u32, constant: u32) -> u32
+    ensures { λ r. ⌜ r ≡ bits int (meaning int a +ℤ meaning int constant) ⌝ }
 {
-    std::num::wrapping_add_u32(a, extended8(constant))
-}
-
-// IINC after WIDE: the same with 16 bits.
-pub fn iinc_wide(a: u32, constant: u16) -> u32
-    ensures { λ r. ⌜ r ≡ bits int (meaning int a +ℤ signed 15 constant) ⌝ }
-{
-    std::num::wrapping_add_u32(a, extended16(constant))
+    std::num::wrapping_add_u32(a, constant)
 }

@@ -10,7 +10,6 @@ pub use int::iadd;
 pub use int::iand;
 pub use int::idiv;
 pub use int::iinc;
-pub use int::iinc_wide;
 pub use int::imul;
 pub use int::ineg;
 pub use int::ior;

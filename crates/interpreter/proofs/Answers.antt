@@ -1,12 +1,13 @@
 -- What the answers of the questions' functions say of the questions. Assumes nothing.
 use Prim.Native.Nat.{ℕ, _+_, _≤_}
-use mathlib.Core.Path.{_≡_, refl, ap}
+use mathlib.Core.Path.{_≡_, refl}
 use mathlib.Core.Bool.{Bool, true, false}
 use mathlib.Core.List.{List}
 use native.Mathlib.Omega.{arith}
 use lib.Dec.{ltb}
 use lib.IntN.{ℤ, pos, negsuc}
 use lib.ListN.{length}
+use borrow.Author.Tests.{ltb-true}
 use Rattle.values.specs.Integers.{low}
 use Rattle.rules.specs.declared.State.{State}
 use Rattle.rules.specs.declared.Decision.the-variants as Decision
@@ -17,11 +18,11 @@ use Rattle.rules.specs.Step.{frame, inside, decideOf}
 use Rattle.rules.proofs.Questions as rules
 use Rattle.rules.proofs.Fetched.{fetched-sound}
 use Rattle.rules.proofs.Step.{refused-by-frame, refused-by-fetch, refused-by-needs}
-use Rattle.operands.specs.declared.jump.Target.the-variants as Target
+use Rattle.operands.specs.declared.jump.Target.{Target}
 use Rattle.operands.specs.Target.{targetOf}
 use Rattle.instructions.specs.declared.decoding.Decoded.the-variants as Decoded
 use Rattle.instructions.specs.Decode.{decoded}
-use Rattle.instructions.specs.Table.{isIn}
+use Rattle.instructions.specs.Table.{isIn, sharedIn}
 use Rattle.effects.specs.Families.{sharedOpcodes}
 use Rattle.rules.specs.declared.Checked.the-variants as Checked
 use Rattle.frame.specs.declared.places.Placed.{Placed}
@@ -30,8 +31,8 @@ use Rattle.rules.specs.Answers.{checked}
 use Rattle.frame.specs.Place.{placeOf}
 use Rattle.rules.proofs.Answers.{row-refused}
 use Rattle.frame.proofs.Needs.{Says, place-says}
-use Rattle.interpreter.specs.Stages.{sharedIn, switchThere, locatedOf, locatedDecision}
-use Rattle.interpreter.proofs.Decision.{entryAt, listed, switch-there}
+use Rattle.interpreter.specs.Stages.{reach, locatedOf, locatedDecision}
+use Rattle.interpreter.proofs.Decision.{entryAt, listed}
 use Rattle.interpreter.proofs.Sources.{located-decides}
 
 -- ---- questions 1 to 3
@@ -91,25 +92,14 @@ module _ (l : Method) (s : State) (slots : List ℕ) (framed : frameCheck l s (l
     pub in-table : isIn sharedOpcodes (sharedIn entry) ≡ true
     in-table = rw (d .entered) (listed l s (d .i) (fetched-sound (l .code) (s .pc) (d .i) (d .at)))
 
-    pub in-code : switchThere (l .code) (s .pc) (sharedIn entry) ≡ true
-    in-code = rw (d .entered) (switch-there l s (d .i) (fetched-sound (l .code) (s .pc) (d .i) (d .at)))
-
 -- ---- question 10
 
-pub target-inside : (code : List ℕ) (z : ℤ) (n : ℕ) → Target.At n ≡ targetOf (inside code z) → inside code (pos n) ≡ inside code z
+-- a target is no further than the code reaches
+pub target-reach : (code : List ℕ) (z : ℤ) (t : Target) → t ≡ targetOf (inside code z) → length code ≤ 65535 → reach t ≤ 65535
 unfolding targetOf _else_ _>>_
-target-inside code (pos m) n e = go (ltb m (length code)) e
+target-reach code (negsuc m) t e short = rw e (omega arith)
+target-reach code (pos m) t e short = rw e (go (ltb m (length code)) refl)
   where
-    go : (t : Bool) → Target.At n ≡ targetOf ((t else 11) >> passed m) → inside code (pos n) ≡ inside code (pos m)
-    go true h = ap (λ (k : ℕ). inside code (pos k)) (cc)
-    go false h = let y : _≡_ {A = ℕ} 0 1 = cc in absurd (omega arith)
-target-inside code (negsuc m) n e = let y : _≡_ {A = ℕ} 0 1 = cc in absurd (omega arith)
-
-pub target-outside : (code : List ℕ) (z : ℤ) → Target.Outside ≡ targetOf (inside code z) → inside code z ≡ refused 11
-unfolding targetOf _else_ _>>_
-target-outside code (pos m) e = go (ltb m (length code)) e
-  where
-    go : (t : Bool) → Target.Outside ≡ targetOf ((t else 11) >> passed m) → ((t else 11) >> passed m) ≡ refused 11
-    go true h = let y : _≡_ {A = ℕ} 0 1 = cc in absurd (omega arith)
-    go false h = refl
-target-outside code (negsuc m) e = refl
+    go : (b : Bool) → ltb m (length code) ≡ b → reach (targetOf ((b else 11) >> passed m)) ≤ 65535
+    go true h = omega (arith, ltb-true m (length code) h)
+    go false h = omega arith

@@ -1,14 +1,14 @@
 -- An instruction that is decoded and placed comes to what the rules decide. Assumes nothing.
-use Prim.Native.Nat.{ℕ, _+_, _-_, _≤_}
+use Prim.Native.Nat.{ℕ, _+_, _-_}
 use mathlib.Core.Path.{_≡_, refl, sym, ap, _∙_}
 use mathlib.Core.Bool.{Bool, true, false, _||_, cond}
 use mathlib.Core.List.{List, [], _∷_}
 use lib.Dec.{eqb}
-use lib.IntN.{ℤ, pos}
+use lib.IntN.{ℤ}
 use lib.ListN.{length, take}
 use borrow.Author.Tests.{eqb-true}
 use Rattle.values.specs.Kinds.{int, placesOf}
-use Rattle.values.specs.Integers.{signed, low, _≤ᶻ_}
+use Rattle.values.specs.Integers.{signed, low}
 use Rattle.values.specs.Words.{meaning}
 use Rattle.rules.specs.declared.State.{State}
 use Rattle.rules.specs.declared.Decision.{Decision}
@@ -16,14 +16,15 @@ use Rattle.rules.specs.declared.Decision.the-variants as Decision
 use Rattle.rules.specs.Check.{Check, passed, refused, _>>=_}
 use Rattle.rules.specs.Forms.{Rule, Operand, Result, offsetFor, pushes, stores, divides, branches, returns}
 use Rattle.rules.specs.Instructions.{rowOf}
-use Rattle.rules.specs.Fetch.{Instruction, operands, lowKey, highKey, tableOperand, pairCount, pairsOperand, fetched}
+use Rattle.rules.specs.Fetch.{Instruction, operands, fetched}
 use Rattle.rules.specs.Questions.{Method, popped, pushed, frameCheck, needsCheck}
 use Rattle.rules.specs.Step.{frame, base, wordsAt, update, inside, ordinary, following, target, outcome, decision, decideOf}
 use Rattle.rules.proofs.Rows.{works}
 use Rattle.rules.proofs.Fetched.{Sound}
 use Rattle.rules.proofs.Step.{result, decided}
-use Rattle.operands.specs.Switch.{offsetIn}
-use Rattle.instructions.specs.Table.{isIn, sharedOf, entryOf}
+use Rattle.operands.specs.Target.{targetOf}
+use Rattle.operands.specs.Switch.{offsetIn, tableOffset, lookupOffset}
+use Rattle.instructions.specs.Table.{isIn, sharedOf, entryOf, sharedIn}
 use Rattle.instructions.proofs.Entries.{digits}
 use Rattle.effects.specs.declared.outcome.Effect.the-variants as Effect
 use Rattle.effects.specs.Effects.{six, effectOf, effectAt}
@@ -31,17 +32,17 @@ use Rattle.effects.specs.Families.{sharedOpcodes}
 use Rattle.effects.proofs.OwnRow.{own-effect, shared-listed}
 use Rattle.frame.proofs.Needs.{Stands, pushed-in, locals-in}
 use Rattle.interpreter.specs.declared.finishing.Located.{Located}
-use Rattle.interpreter.specs.Stages.{sharedIn, locatedOf, ordinaryTo, switchThere, offsetAt, branchOf, finishOf}
+use Rattle.interpreter.specs.Stages.{locatedOf, ordinaryTo, offsetAt, branchOf, finishOf}
 use Rattle.interpreter.proofs.Results.{doesFour, isStore, row-stores, offsetBy, offsetOf, row-offset, row-table, row-pairs}
 
 -- ---- what a result comes to
 
 module _ (l : Method) (s : State) (i : Instruction) where
-  ordinary-is : (to : ℤ) (at n : ℕ) (ws : List ℕ) → decision (ordinary l s i to at n ws) ≡ ordinaryTo (inside (l .code) to) (s .depth - popped i + pushed i) at n (six ws)
-  unfolding _>>=_ ordinaryTo
+  ordinary-is : (to : ℤ) (at n : ℕ) (ws : List ℕ) → decision (ordinary l s i to at n ws) ≡ ordinaryTo (targetOf (inside (l .code) to)) (s .depth - popped i + pushed i) at n (six ws)
+  unfolding _>>=_ targetOf ordinaryTo
   ordinary-is to at n ws = go (inside (l .code) to)
     where
-      go : (x : Check ℕ) → decision (x >>= λ pc. passed (Decision.Ordinary (update pc (s .depth - popped i + pushed i) at n ws))) ≡ ordinaryTo x (s .depth - popped i + pushed i) at n (six ws)
+      go : (x : Check ℕ) → decision (x >>= λ pc. passed (Decision.Ordinary (update pc (s .depth - popped i + pushed i) at n ws))) ≡ ordinaryTo (targetOf x) (s .depth - popped i + pushed i) at n (six ws)
       go (passed pc) = refl
       go (refused n) = refl
 
@@ -85,24 +86,19 @@ module _ (l : Method) (s : State) (i : Instruction) (f : Sound (l .code) (s .pc)
   operand-is : operands (i .operand .index) (signed 31 (low 32 (i .operand .constant))) (i .operand .pairs) ≡ i .operand
   operand-is = rw (f .int-constant) refl
 
-  pub switch-there : switchThere (l .code) (s .pc) (sharedIn (entryAt i)) ≡ true
-  switch-there = rw shared-is (go (eqb (sharedOf (f .row)) 170) refl (eqb (sharedOf (f .row)) 171) refl)
-    where
-      go : (t : Bool) → eqb (sharedOf (f .row)) 170 ≡ t → (u : Bool) → eqb (sharedOf (f .row)) 171 ≡ u
-          → cond t (lowKey (l .code) (s .pc) ≤ᶻ highKey (l .code) (s .pc)) (cond u (pos 0 ≤ᶻ pairCount (l .code) (s .pc)) true) ≡ true
-      go true p u q = f .tables (row-table (i .opcode) (f .row) (f .found) (eqb-true _ _ p)) .1
-      go false p true q = f .lookups (row-pairs (i .opcode) (f .row) (f .found) (eqb-true _ _ q)) .1
-      go false p false q = refl
-
   offset-is : (key : ℕ) → offsetAt (l .code) (s .pc) (sharedOf (f .row)) (low 32 (i .operand .constant)) key ≡ offsetOf (sharedOf (f .row)) (i .operand) key
-  unfolding offsetAt
+  unfolding offsetAt tableOffset lookupOffset
   offset-is key = go (eqb (sharedOf (f .row)) 170) refl (eqb (sharedOf (f .row)) 171) refl
     where
       go : (t : Bool) → eqb (sharedOf (f .row)) 170 ≡ t → (u : Bool) → eqb (sharedOf (f .row)) 171 ≡ u
-          → cond t (offsetIn (tableOperand (l .code) (s .pc)) (meaning int key)) (cond u (offsetIn (pairsOperand (l .code) (s .pc)) (meaning int key)) (meaning int (low 32 (i .operand .constant))))
+          → cond t (tableOffset (l .code) (s .pc) (meaning int key)) (cond u (lookupOffset (l .code) (s .pc) (meaning int key)) (meaning int (low 32 (i .operand .constant))))
           ≡ cond (t || u) (offsetFor (meaning int key) (i .operand .constant) (i .operand .pairs)) (i .operand .constant)
-      go true p u q = ap (λ (o : Operand). offsetIn o (meaning int key)) (sym (f .tables (row-table (i .opcode) (f .row) (f .found) (eqb-true _ _ p)) .0))
-      go false p true q = ap (λ (o : Operand). offsetIn o (meaning int key)) (sym (f .lookups (row-pairs (i .opcode) (f .row) (f .found) (eqb-true _ _ q)) .0))
+      go true p u q =
+          let t = f .tables (row-table (i .opcode) (f .row) (f .found) (eqb-true _ _ p)) in
+          rw (t .1) (ap (λ (o : Operand). offsetIn o (meaning int key)) (sym (t .0)))
+      go false p true q =
+          let t = f .lookups (row-pairs (i .opcode) (f .row) (f .found) (eqb-true _ _ q)) in
+          rw (t .1) (ap (λ (o : Operand). offsetIn o (meaning int key)) (sym (t .0)))
       go false p false q = f .int-constant
 
   module _ (first depth : ℕ) (st : Stands l s i first depth) where

@@ -9,12 +9,13 @@ use lib.ListN.{length, take, drop, getD, length-drop}
 use lib.Seq.{length-take-le}
 use Rattle.values.specs.Kinds.{Kind, int, long, float, double, places, placesOf}
 use Rattle.rules.specs.declared.State.{State}
-use Rattle.rules.specs.Check.{passed, _else_}
+use Rattle.rules.specs.Check.{Check, passed, refused, _else_}
 use Rattle.rules.specs.Forms.{Rule, Source, stack, local, pool}
 use Rattle.rules.specs.Instructions.{rowOf}
 use Rattle.rules.specs.Fetch.{Instruction, fetched}
-use Rattle.rules.specs.Questions.{Method, popped, pushed, constantThere, frameCheck, needsCheck}
+use Rattle.rules.specs.Questions.{Method, popped, pushed, constantCheck, frameCheck, needsCheck}
 use Rattle.rules.specs.Step.{frame, base, decideOf}
+use Rattle.rules.proofs.Check.{last-passed}
 use Rattle.rules.proofs.Rows.{of-row, small, small-row, one-named, local-within, works, works-few}
 use Rattle.rules.proofs.Questions.{framed, needed}
 use Rattle.rules.proofs.Fetched.{Sound, fetched-sound}
@@ -87,21 +88,21 @@ module _ (l : Method) (s : State) (slots : List ℕ) (passes : frameCheck l s (l
     its-places = ap (λ (r : Rule). placesOf (r .gives)) (sound .ruled) ∙ ap placesOf (row-given (i .opcode) (sound .row) (sound .found) ∙ gives) ∙ omega arith
 
     in-pool : readDecision (l .code) (s .pc) (locatedAt s i first depth) (fromPool (constantOf (l .kinds) (l .words) (i .operand .index) j k)) ≡ decideOf l s slots
-    unfolding locatedOf constantOf _else_
-    in-pool = go (constantThere (l .kinds) (i .operand .index) (j ∷ k ∷ [])) refl
+    unfolding locatedOf constantOf
+    in-pool = go (constantCheck (l .kinds) (i .operand .index) (j ∷ k ∷ [])) refl
       where
-        asks : (t : Bool) → constantThere (l .kinds) (i .operand .index) (j ∷ k ∷ []) ≡ t → needsCheck l s i ≡ (t else 10)
-        asks t e = st .asked ∙ ap (λ (u : Bool). u else 10) (ap (constantThere (l .kinds) (i .operand .index)) its-kinds ∙ e)
+        asks : (x : Check (Unit {0})) → constantCheck (l .kinds) (i .operand .index) (j ∷ k ∷ []) ≡ x → needsCheck l s i ≡ x
+        asks x e = st .asked ∙ ap (constantCheck (l .kinds) (i .operand .index)) its-kinds ∙ e
 
-        go : (t : Bool) → constantThere (l .kinds) (i .operand .index) (j ∷ k ∷ []) ≡ t
-            → readDecision (l .code) (s .pc) (locatedAt s i first depth) (fromPool (found t (take (places j) (drop (i .operand .index) (l .words))))) ≡ decideOf l s slots
-        go true e =
+        go : (x : Check (Unit {0})) → constantCheck (l .kinds) (i .operand .index) (j ∷ k ∷ []) ≡ x
+            → readDecision (l .code) (s .pc) (locatedAt s i first depth) (fromPool (found (take (places j) (drop (i .operand .index) (l .words))) x)) ≡ decideOf l s slots
+        go (passed t) e =
             let f = framed l s (length slots) passes in
-            let c = constant-within (l .kinds) (i .operand .index) j k alike e in
+            let c = constant-within (l .kinds) (i .operand .index) j k alike (last-passed _ _ e) in
             let long : length (take (places j) (drop (i .operand .index) (l .words))) ≡ places j = length-take-le (places j) (drop (i .operand .index) (l .words)) (omega (arith, length-drop (i .operand .index) (l .words))) in
-            from-words l s i sound first depth st slots passes at (asks true e) _ _ _ _
+            from-words l s i sound first depth st slots passes at (asks (passed t) e) _ _ _ _
             (rw (reads, its-places) (one-or-two (take (places j) (drop (i .operand .index) (l .words))) (places j) long short))
-        go false e = sym (refused-by-needs l (length slots) s (frame s slots) passes i at 10 (asks false e))
+        go (refused n) e = sym (refused-by-needs l (length slots) s (frame s slots) passes i at n (asks (refused n) e))
 
   -- ---- THE LAW: a located instruction comes to what the rules decide
 

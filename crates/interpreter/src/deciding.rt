@@ -22,7 +22,7 @@ ghost use Rattle.effects.specs.Families.{sharedOpcodes};
 ghost use Rattle.rules.specs.Check.{passed};
 ghost use Rattle.rules.specs.Questions.{method, frameCheck};
 ghost use Rattle.rules.specs.Step.{decideOf};
-ghost use Rattle.interpreter.specs.Stages.{switchThere, locatedDecision};
+ghost use Rattle.interpreter.specs.Stages.{locatedDecision};
 
 // Question 9, what the instruction does, and question 10.
 fn decide_located(
@@ -35,15 +35,16 @@ fn decide_located(
 ) -> Decision
     requires { ⌜ length (now code) ≤ 65535 ⌝ }
     requires { ⌜ isIn sharedOpcodes (i .op) ≡ true ⌝ }
-    requires { ⌜ switchThere (now code) pc (i .op) ≡ true ⌝ }
     ensures { λ r. ⌜ r ≡ locatedDecision (method (now (code .entry)) (now (kinds .entry)) (now (words .entry))) (now (slots .entry)) pc i ⌝ }
 {
     let read = read_words(kinds, words, slots, i.op, i.index, i.base);
-    let Read::Words(w) = read else {
-        return Decision::Refused(10);
-    };
-    let does = effect(i.op, i.constant, w.a, w.b, w.c, w.d);
-    finish(code, pc, i, w.a, does)
+    match read {
+        Read::Refused(n) => Decision::Refused(n),
+        Read::Words(w) => {
+            let does = effect(i.op, i.constant, w.a, w.b, w.c, w.d);
+            finish(code, pc, i, w.a, does)
+        }
+    }
 }
 
 // Questions 4 to 10, where questions 1 to 3 have passed.

@@ -1,7 +1,12 @@
 // What a step comes to, from what its instruction does: the next offset, with question 10, and where the words go.
 use effects::Effect;
 use effects::Six;
+use instructions::locals_in;
+use instructions::opcodes::*;
+use instructions::pushes_in;
+use instructions::shared_in;
 use operands::Target;
+use operands::inside;
 use operands::jump_relative;
 use operands::lookup_offset;
 use operands::table_offset;
@@ -10,12 +15,11 @@ use rules::Update;
 ghost use mathlib.Core.Path.{_≡_};
 ghost use mathlib.Core.Bool.{true};
 ghost use Prim.Native.Nat.{_≤_};
-ghost use lib.IntN.{pos};
 ghost use lib.ListN.{length};
 ghost use Rattle.values.specs.Kinds.{int};
 ghost use Rattle.values.specs.Words.{meaning};
-ghost use Rattle.rules.specs.Step.{firstPlace, inside};
-ghost use Rattle.interpreter.specs.Stages.{noWords, switchThere, offsetAt, ordinaryTo, branchOf, finishOf, storesTo, locatedOf};
+ghost use Rattle.rules.specs.Step.{firstPlace};
+ghost use Rattle.interpreter.specs.Stages.{noWords, reach, offsetAt, ordinaryTo, branchOf, finishOf, storesTo, locatedOf};
 
 // An instruction that questions 4 to 8 have passed: its shared opcode, index and constant, the offset after it, its first place on
 // the stack, the new depth, and where its words go and how many.
@@ -34,13 +38,13 @@ pub(crate) struct Located {
 fn is_store(op: u8) -> bool
     ensures { λ r. ⌜ r ≡ storesTo op ⌝ }
 {
-    if op == 54 {
+    if op == ISTORE {
         return true;
     }
-    if op == 55 {
+    if op == LSTORE {
         return true;
     }
-    op == 132
+    op == IINC
 }
 
 // An instruction of an entry of the table, with its operands, the offset after it and its place on the stack.
@@ -54,7 +58,7 @@ pub(crate) fn locate(
 ) -> Located
     ensures { λ r. ⌜ r ≡ locatedOf entry index constant next base depth ⌝ }
 {
-    let op = (entry / 0x1000000) as u8;
+    let op = shared_in(entry);
     if is_store(op) {
         return Located {
             op,
@@ -64,7 +68,7 @@ pub(crate) fn locate(
             base,
             depth,
             first: index,
-            many: entry / 0x10000 % 16,
+            many: locals_in(entry),
         };
     }
     Located {
@@ -75,7 +79,7 @@ pub(crate) fn locate(
         base,
         depth,
         first: base,
-        many: entry / 0x1000 % 16,
+        many: pushes_in(entry),
     }
 }
 
@@ -100,37 +104,36 @@ fn first_place(first: u32, many: u32) -> u32
     if many == 0 { 0 } else { first }
 }
 
-// An ordinary step to an offset, if it is in the code, with the first of some words written from a place on.
-fn ordinary_to(code: &[u8], to: usize, depth: u32, first: u32, many: u32, w: Six) -> Decision
-    requires { ⌜ length (now code) ≤ 65535 ⌝ }
-    ensures { λ r. ⌜ r ≡ ordinaryTo (inside (now (code .entry)) (pos to)) depth first many w ⌝ }
+// An ordinary step to a target, if it is in the code, with the first of some words written from a place on.
+fn ordinary_to(to: Target, depth: u32, first: u32, many: u32, w: Six) -> Decision
+    requires { ⌜ reach to ≤ 65535 ⌝ }
+    ensures { λ r. ⌜ r ≡ ordinaryTo to depth first many w ⌝ }
 {
-    if code.len() <= to {
-        return Decision::Refused(11);
+    match to {
+        Target::Refused(n) => Decision::Refused(n),
+        Target::At(pc) => Decision::Ordinary(Update {
+            pc: pc as u32,
+            depth,
+            first: first_place(first, many),
+            many,
+            w0: w.w0,
+            w1: w.w1,
+            w2: w.w2,
+            w3: w.w3,
+            w4: w.w4,
+            w5: w.w5,
+        }),
     }
-    Decision::Ordinary(Update {
-        pc: to as u32,
-        depth,
-        first: first_place(first, many),
-        many,
-        w0: w.w0,
-        w1: w.w1,
-        w2: w.w2,
-        w3: w.w3,
-        w4: w.w4,
-        w5: w.w5,
-    })
 }
 
 // The offset of a branch that is taken: a switch looks its key up in the code, any other has it as its constant.
 fn branch_offset(code: &[u8], pc: u32, op: u8, constant: u32, key: u32) -> u32
-    requires { ⌜ switchThere (now code) pc op ≡ true ⌝ }
     ensures { λ r. ⌜ meaning int r ≡ offsetAt (now (code .entry)) pc op constant key ⌝ }
 {
-    if op == 170 {
+    if op == TABLESWITCH {
         return table_offset(code, pc, key);
     }
-    if op == 171 {
+    if op == LOOKUPSWITCH {
         return lookup_offset(code, pc, key);
     }
     constant
@@ -139,37 +142,35 @@ fn branch_offset(code: &[u8], pc: u32, op: u8, constant: u32, key: u32) -> u32
 // A branch that is taken.
 fn jump(code: &[u8], pc: u32, i: Located, key: u32) -> Decision
     requires { ⌜ length (now code) ≤ 65535 ⌝ }
-    requires { ⌜ switchThere (now code) pc (i .op) ≡ true ⌝ }
     ensures { λ r. ⌜ r ≡ branchOf (now (code .entry)) pc i key true ⌝ }
 {
     let offset = branch_offset(code, pc, i.op, i.constant, key);
     let to = jump_relative(code, pc, offset);
-    match to {
-        Target::At(place) => ordinary_to(code, place, i.depth, 0, 0, no_words()),
-        Target::Outside => Decision::Refused(11),
-    }
+    ordinary_to(to, i.depth, 0, 0, no_words())
 }
 
 // A branch, taken or not.
 fn branch(code: &[u8], pc: u32, i: Located, key: u32, taken: bool) -> Decision
     requires { ⌜ length (now code) ≤ 65535 ⌝ }
-    requires { ⌜ switchThere (now code) pc (i .op) ≡ true ⌝ }
     ensures { λ r. ⌜ r ≡ branchOf (now (code .entry)) pc i key taken ⌝ }
 {
     if taken {
         return jump(code, pc, i, key);
     }
-    ordinary_to(code, i.next, i.depth, 0, 0, no_words())
+    let to = inside(code, i.next);
+    ordinary_to(to, i.depth, 0, 0, no_words())
 }
 
 // What the step comes to, of what its instruction does; `key` is the first word that it works on.
 pub(crate) fn finish(code: &[u8], pc: u32, i: Located, key: u32, does: Effect) -> Decision
     requires { ⌜ length (now code) ≤ 65535 ⌝ }
-    requires { ⌜ switchThere (now code) pc (i .op) ≡ true ⌝ }
     ensures { λ r. ⌜ r ≡ finishOf (now (code .entry)) pc i key does ⌝ }
 {
     match does {
-        Effect::Words(w) => ordinary_to(code, i.next, i.depth, i.first, i.many, w),
+        Effect::Words(w) => {
+            let to = inside(code, i.next);
+            ordinary_to(to, i.depth, i.first, i.many, w)
+        }
         Effect::Throw => Decision::Throw,
         Effect::Branch(taken) => branch(code, pc, i, key, taken),
         Effect::Return(v) => Decision::Return(v),

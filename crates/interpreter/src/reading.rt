@@ -2,6 +2,7 @@
 use const_pool::Constant;
 use const_pool::ldc;
 use const_pool::ldc2_w;
+use instructions::opcodes::*;
 ghost use mathlib.Core.Path.{_≡_};
 ghost use lib.ListN.{getD};
 ghost use Rattle.interpreter.specs.Stages.{fourAt, fromPool, readOf};
@@ -14,10 +15,10 @@ pub(crate) struct Four {
     pub d: u32,
 }
 
-// The words, or question 9's no.
+// The words, or the number of the question that refuses the constant.
 pub(crate) enum Read {
     Words(Four),
-    Missing,
+    Refused(u32),
 }
 
 // The word at a place, and 0 past the end.
@@ -58,7 +59,7 @@ fn from_pool(found: Constant) -> Read
             c: 0,
             d: 0,
         }),
-        Constant::Missing => Read::Missing,
+        Constant::Refused(n) => Read::Refused(n),
     }
 }
 
@@ -73,19 +74,19 @@ pub(crate) fn read_words(
 ) -> Read
     ensures { λ r. ⌜ r ≡ readOf (now (kinds .entry)) (now (words .entry)) (now (slots .entry)) op index base ⌝ }
 {
-    if op == 18 {
+    if op == LDC {
         return from_pool(ldc(kinds, words, index));
     }
-    if op == 20 {
+    if op == LDC2_W {
         return from_pool(ldc2_w(kinds, words, index));
     }
-    if op == 21 {
+    if op == ILOAD {
         return Read::Words(four_at(slots, index));
     }
-    if op == 22 {
+    if op == LLOAD {
         return Read::Words(four_at(slots, index));
     }
-    if op == 132 {
+    if op == IINC {
         return Read::Words(four_at(slots, index));
     }
     Read::Words(four_at(slots, base))

@@ -1,12 +1,11 @@
 -- LOOKUPSWITCH: how many pairs it has, by the word that counts them. Assumes nothing.
 use Prim.Native.Nat.{ℕ, _+_, _^_, _≤_, _<_}
-use mathlib.Core.Path.{_≡_, refl, sym, ap, ap₂, _∙_}
-use mathlib.Core.Bool.{Bool, true, false}
+use mathlib.Core.Path.{_≡_, sym, ap, ap₂, _∙_}
+use mathlib.Core.Bool.{true, false}
 use mathlib.Core.List.{List}
 use native.Mathlib.Omega.{arith}
-use lib.Dec.{ltb}
 use lib.IntN.{ℤ, pos, natAbs}
-use borrow.Author.Tests.{le-leb, ltb-true, ltb-false}
+use borrow.Author.Tests.{le-leb}
 use Rattle.values.specs.Integers.{signed, _≤ᶻ_}
 use Rattle.values.proofs.Integers.{signed-plus, signed-minus}
 use Rattle.rules.specs.Fetch.{u32, aligned, pairsFrom, pairCount, keyPairs}
@@ -24,16 +23,6 @@ module _ (code : List ℕ) (pc at count : ℕ) (start : at ≡ aligned pc) (coun
 
   pub negative : 2 ^ 31 ≤ count → (pos 0 ≤ᶻ pairCount code pc) ≡ false
   negative h = ap (λ (z : ℤ). pos 0 ≤ᶻ z) (sym count-means ∙ signed-minus 31 count h)
-
-  pub small : (pos 0 ≤ᶻ pairCount code pc) ≡ true → count < 2 ^ 31
-  small counted = go (ltb count (2 ^ 31)) refl
-    where
-      go : (t : Bool) → ltb count (2 ^ 31) ≡ t → count < 2 ^ 31
-      go true e = ltb-true count (2 ^ 31) e
-      go false e =
-          let no = negative (ltb-false count (2 ^ 31) e) in
-          let z : _≡_ {A = ℕ} 0 1 = cc in
-          omega arith
 
   pub not-negative : count < 2 ^ 31 → Counted code pc at count
   not-negative small =

@@ -6,7 +6,7 @@ use native.Mathlib.Omega.{arith}
 use native.Mathlib.Nat.{pow-succ', mod-eq-of-lt, add-mod-right}
 use lib.Dec.{ltb}
 use lib.IntN.{ℤ, pos, negsuc, negℤ, _+ℤ_, _-ℤ_}
-use borrow.Author.Tests.{ltb-true, ltb-false, leb-true}
+use borrow.Author.Tests.{ltb-true, ltb-false, leb-true, leb-false}
 use Rattle.values.specs.Integers.{signed, _≤ᶻ_}
 
 -- x is a - b
@@ -47,6 +47,12 @@ ordered a b c (pos m) (negsuc n) p q e = let z : _≡_ {A = ℕ} 0 1 = cc in ome
 ordered a b c (negsuc m) (pos n) p q e = omega arith
 ordered a b c (negsuc m) (negsuc n) p q e = let k = leb-true n m e in omega arith
 
+unordered : (a b c : ℕ) (x y : ℤ) → Difference x a c → Difference y b c → (x ≤ᶻ y) ≡ false → b < a
+unordered a b c (pos m) (pos n) p q e = let k = leb-false m n e in omega arith
+unordered a b c (pos m) (negsuc n) p q e = omega arith
+unordered a b c (negsuc m) (pos n) p q e = let z : _≡_ {A = ℕ} 0 1 = cc in omega arith
+unordered a b c (negsuc m) (negsuc n) p q e = let k = leb-false n m e in omega arith
+
 -- ---- words
 
 -- 2 ^ h more than what a word of h bits and a sign means
@@ -81,3 +87,6 @@ module _ (h a b : ℕ) (A : a < 2 ^ suc h) (B : b < 2 ^ suc h) where
 
   pub word-order : (signed h a ≤ᶻ signed h b) ≡ true → raised h a ≤ raised h b
   word-order e = ordered (raised h a) (raised h b) (2 ^ h) (signed h a) (signed h b) (signed-difference h a A) (signed-difference h b B) e
+
+  pub word-unordered : (signed h a ≤ᶻ signed h b) ≡ false → raised h b < raised h a
+  word-unordered e = unordered (raised h a) (raised h b) (2 ^ h) (signed h a) (signed h b) (signed-difference h a A) (signed-difference h b B) e

@@ -1,18 +1,18 @@
 -- LOOKUPSWITCH: which pair has a key, and the offset that stands with it. Assumes nothing.
-use Prim.Native.Nat.{ℕ, zero, suc, _+_, _*_, _≤_, _<_}
+use Prim.Native.Nat.{ℕ, zero, suc, _+_, _*_, _^_, _≤_, _<_}
 use mathlib.Core.Path.{_≡_, refl, sym, ap, ap₂, _∙_}
 use mathlib.Core.Bool.{Bool, true, false, cond}
 use mathlib.Core.List.{List}
 use native.Mathlib.Omega.{arith}
 use lib.Dec.{ltb, leb·suc-suc}
-use lib.IntN.{ℤ, pos}
+use lib.IntN.{ℤ}
 use borrow.Author.Tests.{lt-ltb, le-ltb}
-use Rattle.values.specs.Integers.{signed, _=ᶻ_, _≤ᶻ_}
+use Rattle.values.specs.Integers.{signed, _=ᶻ_}
 use Rattle.rules.specs.Forms.{offsetFor}
-use Rattle.rules.specs.Fetch.{u32, s32, aligned, pairsFrom, pairCount, keyPairs}
-use Rattle.operands.specs.Switch.{keyIndex}
+use Rattle.rules.specs.Fetch.{u32, s32, aligned, pairsFrom}
+use Rattle.operands.specs.Switch.{lookupOffset, keyIndex}
 use Rattle.operands.proofs.Readings.{word-means}
-use Rattle.operands.proofs.Counts.{small, not-negative}
+use Rattle.operands.proofs.Counts.{negative, not-negative}
 use Rattle.operands.proofs.Pairs.{rest, keyAt, rest-none, rest-next}
 
 module _ (code : List ℕ) (key : ℤ) where
@@ -61,16 +61,20 @@ module _ (code : List ℕ) (key : ℤ) where
 
 -- ---- the words that were read
 
-module _ (code : List ℕ) (pc at count key i : ℕ) (start : at ≡ aligned pc) (counts : count ≡ u32 code (at + 4))
-    (index : i ≡ keyIndex (signed 31 key) (pairsFrom code (at + 8) count)) (counted : (pos 0 ≤ᶻ pairCount code pc) ≡ true) where
-  abbrev offset : ℤ
-  offset = offsetFor (signed 31 key) (s32 code (aligned pc)) (keyPairs code pc)
+module _ (code : List ℕ) (pc at count key : ℕ) (start : at ≡ aligned pc) (counts : count ≡ u32 code (at + 4)) where
+  pub no-pairs-read : 2 ^ 31 ≤ count → (r : ℕ) → r ≡ u32 code at → signed 31 r ≡ lookupOffset code pc (signed 31 key)
+  unfolding lookupOffset
+  no-pairs-read h r e = rw (negative code pc at count start counts h) (word-means code at r e ∙ ap (λ (a : ℕ). s32 code a) start)
 
-  pairs-of : offsetFor (signed 31 key) (s32 code (aligned pc)) (pairsFrom code (at + 8) count) ≡ offset
-  pairs-of = ap (offsetFor (signed 31 key) (s32 code (aligned pc))) (not-negative code pc at count start counts (small code pc at count start counts counted) .pairs)
+  module _ (i : ℕ) (index : i ≡ keyIndex (signed 31 key) (pairsFrom code (at + 8) count)) (few : count < 2 ^ 31) where
+    pairs-of : offsetFor (signed 31 key) (s32 code (aligned pc)) (pairsFrom code (at + 8) count) ≡ lookupOffset code pc (signed 31 key)
+    unfolding lookupOffset
+    pairs-of =
+        let n = not-negative code pc at count start counts few in
+        rw (n .counted) (ap (offsetFor (signed 31 key) (s32 code (aligned pc))) (n .pairs))
 
-  pub pair-read : (r : ℕ) → r ≡ u32 code (at + 8 + 8 * i + 4) → i < count → signed 31 r ≡ offset
-  pair-read r e h = word-means code (at + 8 + 8 * i + 4) r e ∙ sym (offset-found code (signed 31 key) (s32 code (aligned pc)) count (at + 8) i index h) ∙ pairs-of
+    pub pair-read : (r : ℕ) → r ≡ u32 code (at + 8 + 8 * i + 4) → i < count → signed 31 r ≡ lookupOffset code pc (signed 31 key)
+    pair-read r e h = word-means code (at + 8 + 8 * i + 4) r e ∙ sym (offset-found code (signed 31 key) (s32 code (aligned pc)) count (at + 8) i index h) ∙ pairs-of
 
-  pub default-read : (r : ℕ) → r ≡ u32 code at → count ≤ i → signed 31 r ≡ offset
-  default-read r e h = word-means code at r e ∙ ap (λ (a : ℕ). s32 code a) start ∙ sym (offset-missing code (signed 31 key) (s32 code (aligned pc)) count (at + 8) i index h) ∙ pairs-of
+    pub default-read : (r : ℕ) → r ≡ u32 code at → count ≤ i → signed 31 r ≡ lookupOffset code pc (signed 31 key)
+    default-read r e h = word-means code at r e ∙ ap (λ (a : ℕ). s32 code a) start ∙ sym (offset-missing code (signed 31 key) (s32 code (aligned pc)) count (at + 8) i index h) ∙ pairs-of

@@ -9,6 +9,7 @@ pub use bytes::read_code_u8;
 pub use bytes::read_code_u16;
 pub use bytes::read_code_u32;
 pub use jump::Target;
+pub use jump::inside;
 pub use jump::jump_relative;
 pub use switches::Switch;
 pub use switches::lookup_offset;

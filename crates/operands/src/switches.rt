@@ -1,14 +1,12 @@
 // TABLESWITCH and LOOKUPSWITCH (JVMS 6.5): whether their tables are whole and in order, and the offset for a key.
 ghost use mathlib.Core.Path.{_≡_};
-ghost use mathlib.Core.Bool.{true};
 ghost use Prim.Native.Nat.{_+_, _*_, _^_, _<_};
-ghost use lib.IntN.{pos};
 ghost use Rattle.values.specs.Kinds.{int};
-ghost use Rattle.values.specs.Integers.{_<ᶻ_, _≤ᶻ_};
+ghost use Rattle.values.specs.Integers.{_<ᶻ_};
 ghost use Rattle.values.specs.Words.{meaning};
 ghost use Rattle.rules.specs.Forms.{Row};
-ghost use Rattle.rules.specs.Fetch.{aligned, lowKey, highKey, tableOperand, tableCheck, pairsFrom, rising, pairCount, pairsOperand, lookupCheck};
-ghost use Rattle.operands.specs.Switch.{switchOf, offsetIn, keyIndex};
+ghost use Rattle.rules.specs.Fetch.{aligned, tableCheck, pairsFrom, rising, lookupCheck};
+ghost use Rattle.operands.specs.Switch.{switchOf, tableOffset, lookupOffset, keyIndex};
 use crate::bytes::read_code_u32;
 use integers::icmpeq;
 use integers::icmple;
@@ -54,18 +52,19 @@ pub fn table_switch(code: &[u8], pc: u32) -> Switch
 
 // TABLESWITCH: the offset for a key, the highest key's among them, or the default.
 pub fn table_offset(code: &[u8], pc: u32, key: u32) -> u32
-    ensures { λ r. ⌜ ((lowKey (now (code .entry)) pc ≤ᶻ highKey (now (code .entry)) pc) ≡ true → meaning int r ≡ offsetIn (tableOperand (now (code .entry)) pc) (meaning int key)) ⌝ }
+    ensures { λ r. ⌜ meaning int r ≡ tableOffset (now (code .entry)) pc (meaning int key) ⌝ }
 {
     let at = after_padding(pc);
     let low = read_code_u32(code, at + 4);
     let high = read_code_u32(code, at + 8);
-    let span = std::num::wrapping_sub_u32(high, low);
-    let i = std::num::wrapping_sub_u32(key, low);
-    if i <= span {
-        read_code_u32(code, at + 12 + 4 * i as usize)
-    } else {
-        read_code_u32(code, at)
+    if !icmple(low, key) {
+        return read_code_u32(code, at);
     }
+    if !icmple(key, high) {
+        return read_code_u32(code, at);
+    }
+    let i = std::num::wrapping_sub_u32(key, low);
+    read_code_u32(code, at + 12 + 4 * i as usize)
 }
 
 // The order that the keys of a LOOKUPSWITCH have: a < b.
@@ -140,10 +139,14 @@ fn key_index(code: &[u8], at: usize, n: usize, key: u32) -> usize
 
 // LOOKUPSWITCH: the offset that stands with a key, or the default.
 pub fn lookup_offset(code: &[u8], pc: u32, key: u32) -> u32
-    ensures { λ r. ⌜ ((pos 0 ≤ᶻ pairCount (now (code .entry)) pc) ≡ true → meaning int r ≡ offsetIn (pairsOperand (now (code .entry)) pc) (meaning int key)) ⌝ }
+    ensures { λ r. ⌜ meaning int r ≡ lookupOffset (now (code .entry)) pc (meaning int key) ⌝ }
 {
     let at = after_padding(pc);
-    let n = read_code_u32(code, at + 4) as usize;
+    let count = read_code_u32(code, at + 4);
+    if 0x8000_0000 <= count {
+        return read_code_u32(code, at);
+    }
+    let n = count as usize;
     let i = key_index(code, at + 8, n, key);
     if i < n {
         read_code_u32(code, at + 8 + 8 * i + 4)

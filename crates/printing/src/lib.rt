@@ -12,20 +12,25 @@ pub use walks::print_decision;
 pub use walks::print_end;
 pub use walks::print_header;
 pub use walks::print_step;
+ghost use mathlib.Core.Path.{_≡_};
 
 // Prints some bytes.
-pub fn print(text: &[u8]) {
+pub fn print(text: &[u8])
+    ensures { λ _. ⌜ now (text .exit) ≡ now (text .entry) ⌝ }
+{
     io::write_all(STDOUT_FILENO, text);
 }
 
 // Prints a byte.
-pub fn print_byte(byte: u8) {
+fn print_byte(byte: u8) {
     let text = [byte; 1];
     print(&text);
 }
 
 // Prints bytes up to the first blank.
-pub fn print_word(text: &[u8]) {
+pub fn print_word(text: &[u8])
+    ensures { λ _. ⌜ now (text .exit) ≡ now (text .entry) ⌝ }
+{
     let mut i = 0;
     while i < text.len() {
         if text[i] == b' ' {

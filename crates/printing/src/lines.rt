@@ -3,6 +3,7 @@ use crate::print;
 use crate::print_hex;
 use crate::print_number;
 use rules::State;
+ghost use mathlib.Core.Path.{_≡_};
 
 // A word as a number to print.
 fn from_word(x: u32) -> u64 {
@@ -10,7 +11,9 @@ fn from_word(x: u32) -> u64 {
 }
 
 // Prints words under a name.
-pub fn print_words(name: &[u8], words: &[u32]) {
+pub fn print_words(name: &[u8], words: &[u32])
+    ensures { λ _. ⌜ (now (name .exit) ≡ now (name .entry)) × (now (words .exit) ≡ now (words .entry)) ⌝ }
+{
     print(name);
     if words.len() == 0 {
         print(b" -");

@@ -7,6 +7,7 @@ use rules::Decision;
 use rules::End;
 use rules::State;
 use values::Value;
+ghost use mathlib.Core.Path.{_≡_};
 
 // Prints the first line.
 pub fn print_header() {
@@ -25,7 +26,9 @@ fn word_at(slots: &[u32], at: usize) -> u32 {
 }
 
 // Prints the line of an ordinary step: the steps before it, and the offset, the opcode, the depth and the word on top where it begins.
-pub fn print_step(steps: u64, code: &[u8], slots: &[u32], s: State) {
+pub fn print_step(steps: u64, code: &[u8], slots: &[u32], s: State)
+    ensures { λ _. ⌜ (now (code .exit) ≡ now (code .entry)) × (now (slots .exit) ≡ now (slots .entry)) ⌝ }
+{
     io::print_decimal(STDOUT_FILENO, steps);
     print_number(s.pc as u64);
     print_number(opcode_at(code, s.pc) as u64);

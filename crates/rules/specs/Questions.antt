@@ -68,6 +68,10 @@ abbrev pub constantThere : List ℕ → ℕ → List Kind → Bool
 constantThere tags x [] = true
 constantThere tags x (k ∷ ks) = oneStandsAt tags x (k ∷ ks)
 
+-- question 9
+abbrev pub constantCheck : List ℕ → ℕ → List Kind → Check (Unit {0})
+constantCheck tags x ks = constantThere tags x ks else 10
+
 unfoldable pub needsCheck : Method → State → Instruction → Check (Unit {0})
 needsCheck l s i = do
   -- 6. Is what it pops there?
@@ -77,4 +81,4 @@ needsCheck l s i = do
   -- 8. Are its locals, both for a long, below max_locals?
   localsBelow (s .«max_locals») (i .operand .index) (i .rule .locals) else 9
   -- 9. Has the pool the right kind at the index, and a following entry for a long?
-  constantThere (l .kinds) (i .operand .index) (i .rule .constants) else 10
+  constantCheck (l .kinds) (i .operand .index) (i .rule .constants)

@@ -121,15 +121,15 @@ returns-12 : tie.Need-returns-12
 unfolding effectAt rowOf
 returns-12 c c' d' = rw (c .before .before .match .keys12, ← c .before .ixor .ensures) (c .one10 .ensures)
 
-iadd-requires-2 : tie.Need-iadd-requires-2
-iadd-requires-2 c κs = search needs
+iinc-requires : tie.Need-iinc-requires
+iinc-requires c κs = search needs
 
 one-requires-11 : tie.Need-one-requires-11
 one-requires-11 c κs = search needs
 
 returns-13 : tie.Need-returns-13
 unfolding effectAt rowOf
-returns-13 c c' d' = rw (only-left intOpcodes (c .before .before .before .args .op) (c .before .before .before .pre) (c .before .before .match .rest), ← c .before .iadd2 .ensures) (c .one11 .ensures)
+returns-13 c c' d' = rw (only-left intOpcodes (c .before .before .before .args .op) (c .before .before .before .pre) (c .before .before .match .rest), ← c .before .iinc .ensures) (c .one11 .ensures)
 
 pub int-effect-spec : {M : Type 1} → statement M
 int-effect-spec =
@@ -157,7 +157,7 @@ int-effect-spec =
     one-requires-9
     ixor-requires
     one-requires-10
-    iadd-requires-2
+    iinc-requires
     one-requires-11
     returns
     returns-2

@@ -5,7 +5,7 @@ use denote.Ref.{now}
 use Rattle.rules.specs.Questions.{method}
 use Rattle.rules.proofs.Questions.{framed}
 use Rattle.interpreter.specs.Stages.{locatedOf}
-use Rattle.interpreter.proofs.Answers.{decodes, by-fetch, by-needs, by-located, next-small, in-table, in-code}
+use Rattle.interpreter.proofs.Answers.{decodes, by-fetch, by-needs, by-located, next-small, in-table}
 use borrow.Author.Needs.{needs}
 use Rattle.interpreter.proofs.deciding.decide_framed.Statement.{statement}
 use Rattle.interpreter.proofs.deciding.decide_framed.Tie as tie
@@ -49,7 +49,7 @@ decide-located-requires c κs =
     let l = method (now (a .code)) (now (a .kinds)) (now (a .words)) in
     let f = c .before .before .before .before .before .before .before .before .before .before .before .before .before .pre in
     let d = decodes (l .code) (a .s .pc) _ _ _ _ (sym (c .before .before .before .before .before .before .decoded2 .given .1) ∙ c .before .before .before .before .before .before .before .before .decode .ensures) in
-    rw (c .locate .ensures) (framed l (a .s) _ f .short-code, (in-table l (a .s) (now (a .slots)) f _ _ _ _ d, in-code l (a .s) (now (a .slots)) f _ _ _ _ d))
+    rw (c .locate .ensures) (framed l (a .s) _ f .short-code, in-table l (a .s) (now (a .slots)) f _ _ _ _ d)
 
 returns : tie.Need-returns
 returns c =

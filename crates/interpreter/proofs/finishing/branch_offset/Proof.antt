@@ -10,15 +10,14 @@ table-offset-requires c κs = search needs
 
 returns : tie.Need-returns
 unfolding offsetAt
-returns c = simp (eq-eqb _ _ (c .before .if1 .taken)) (c .table-offset .ensures (rw (c .before .if1 .taken) at (c .before .before .before .pre)))
+returns c = simp (eq-eqb _ _ (c .before .if1 .taken)) (c .table-offset .ensures)
 
 lookup-offset-requires : tie.Need-lookup-offset-requires
 lookup-offset-requires c κs = search needs
 
 returns-2 : tie.Need-returns-2
 unfolding offsetAt
-returns-2 c = simp (ne-eqb _ _ (c .before .before .if1 .left), eq-eqb _ _ (c .before .if2 .taken))
-    (c .lookup-offset .ensures (rw (c .before .if2 .taken) at (c .before .before .before .before .pre)))
+returns-2 c = simp (ne-eqb _ _ (c .before .before .if1 .left), eq-eqb _ _ (c .before .if2 .taken)) (c .lookup-offset .ensures)
 
 returns-3 : tie.Need-returns-3
 unfolding offsetAt

@@ -1,5 +1,8 @@
 -- `finish` meets its contract. Assumes nothing.
+use lib.IntN.{pos}
+use denote.Ref.{now}
 use Rattle.interpreter.specs.Stages.{finishOf}
+use Rattle.interpreter.proofs.Answers.{target-reach}
 use borrow.Author.Needs.{needs}
 use Rattle.interpreter.proofs.finishing.finish.Statement.{statement}
 use Rattle.interpreter.proofs.finishing.finish.Tie as tie
@@ -7,8 +10,13 @@ use Rattle.interpreter.proofs.finishing.finish.Tie as tie
 enum-known-does : tie.Need-enum-known-does
 enum-known-does c = search needs
 
+inside-requires : tie.Need-inside-requires
+inside-requires c κs = search needs
+
 ordinary-to-requires : tie.Need-ordinary-to-requires
-ordinary-to-requires c κs = search needs
+ordinary-to-requires c κs =
+    let a = c .before .before .before .before .before .args in
+    target-reach (now (a .code)) (pos (a .i .next)) _ (c .inside .ensures) (c .before .before .before .before .before .pre)
 
 enum-told : tie.Need-enum-told
 enum-told c = search needs
@@ -24,7 +32,7 @@ enum-known-does-3 c = search needs
 
 returns : tie.Need-returns
 unfolding finishOf
-returns c = simp (c .before .before .does .given .1, ← c .ordinary-to .ensures)
+returns c = simp (c .before .before .before .does .given .1, ← c .before .inside .ensures, ← c .ordinary-to .ensures)
 
 returns-2 : tie.Need-returns-2
 unfolding finishOf
@@ -43,6 +51,7 @@ finish-spec =
     tie.close
     (tie.spec
     enum-known-does
+    inside-requires
     ordinary-to-requires
     enum-told
     enum-known-does-2
