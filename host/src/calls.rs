@@ -49,6 +49,14 @@ impl State {
             count: joined(low, high),
         }
     }
+
+    /// Lends the state's words to a call, and takes what it left in them.
+    fn lend(&mut self, call: impl FnOnce(&mut [u32]) -> u32) -> u32 {
+        let mut words = self.to_words();
+        let number = call(&mut words);
+        *self = State::from_words(words);
+        number
+    }
 }
 
 /// What a step reads and never writes: the code and the constant pool. Any slices will do; what
@@ -104,40 +112,25 @@ pub fn load(
 /// One step without history. An ordinary step gives count 0: it ends a walk, because the log no
 /// longer says how to go back.
 pub fn step(parts: Parts, slots: &mut [u32], state: &mut State) -> Answer {
-    let (mut words, mut value) = (state.to_words(), [0; 4]);
-    let number = ffi::step(
-        parts.code,
-        parts.kinds,
-        parts.words,
-        slots,
-        &mut words,
-        &mut value,
-    );
-    *state = State::from_words(words);
+    let Parts { code, kinds, words } = parts;
+    let mut value = [0; 4];
+    let number = state.lend(|state| ffi::step(code, kinds, words, slots, state, &mut value));
     answer(number, value[0], value[1])
 }
 
 /// One step with history: the log says how to take it back.
 pub fn forward(parts: Parts, slots: &mut [u32], log: &mut [u32], state: &mut State) -> Answer {
-    let (mut words, mut value) = (state.to_words(), [0; 4]);
-    let number = ffi::forward(
-        parts.code,
-        parts.kinds,
-        parts.words,
-        slots,
-        log,
-        &mut words,
-        &mut value,
-    );
-    *state = State::from_words(words);
+    let Parts { code, kinds, words } = parts;
+    let mut value = [0; 4];
+    let number =
+        state.lend(|state| ffi::forward(code, kinds, words, slots, log, state, &mut value));
     answer(number, value[0], value[1])
 }
 
 /// Takes the last step back. The answer is granted or refused.
 pub fn back(parts: Parts, slots: &mut [u32], log: &[u32], state: &mut State) -> Answer {
-    let mut words = state.to_words();
-    let number = ffi::back(parts.code, parts.kinds, parts.words, slots, log, &mut words);
-    *state = State::from_words(words);
+    let Parts { code, kinds, words } = parts;
+    let number = state.lend(|state| ffi::back(code, kinds, words, slots, log, state));
     answer(number, 0, 0)
 }
 
@@ -147,17 +140,10 @@ pub fn back(parts: Parts, slots: &mut [u32], log: &[u32], state: &mut State) -> 
 /// first three questions refuse (memory, pc, depth) leaves the state as it was. In a method that
 /// does not end, a run takes as long as its budget says.
 pub fn run(parts: Parts, slots: &mut [u32], state: &mut State, budget: u64) -> Ran {
-    let (mut words, mut report) = (state.to_words(), [0; 4]);
-    let number = ffi::run(
-        parts.code,
-        parts.kinds,
-        parts.words,
-        slots,
-        &mut words,
-        &mut report,
-        budget,
-    );
-    *state = State::from_words(words);
+    let Parts { code, kinds, words } = parts;
+    let mut report = [0; 4];
+    let number =
+        state.lend(|state| ffi::run(code, kinds, words, slots, state, &mut report, budget));
     let [low, high, steps_low, steps_high] = report;
     Ran {
         end: end(number, low, high),
@@ -179,23 +165,15 @@ pub fn presses(
         .map(|press| u8::from(*press == Press::Forward))
         .collect();
     let mut answers = vec![[0; 3]; list.len()];
-    let mut words = state.to_words();
-    let number = ffi::presses(
-        parts.code,
-        parts.kinds,
-        parts.words,
-        slots,
-        log,
-        &mut words,
-        &bytes,
-        answers.as_flattened_mut(),
-    );
+    let room = answers.as_flattened_mut();
+    let Parts { code, kinds, words } = parts;
+    let number =
+        state.lend(|state| ffi::presses(code, kinds, words, slots, log, state, &bytes, room));
     // The only other number is for too few words of state or answers, and there are enough of both.
     assert_eq!(
         number, 0,
         "the library makes every list of presses that has room for its answers"
     );
-    *state = State::from_words(words);
     answers
         .into_iter()
         .map(|[number, low, high]| answer(number, low, high))

@@ -5,7 +5,9 @@
 
 mod common;
 
-use common::{arguments, constant, record, sheet, sizes, Lengths, Memory, ENOUGH};
+use common::memory::{Lent, Memory};
+use common::records::{arguments, constant, record, sizes};
+use common::{sheet, Lengths, ENOUGH};
 
 /// ICONST_3, ICONST_4, IADD, IRETURN.
 const ADDS: [u8; 4] = [0x06, 0x07, 0x60, 0xAC];
@@ -176,7 +178,7 @@ fn a_load_refuses_memory_that_does_not_suit() {
 fn situations() -> Vec<(&'static str, Memory)> {
     let ordinary = Memory::standing(2, &ADDS, 1, &[3]);
     let mut uneven = ordinary.clone();
-    uneven.kinds = common::Lent::new(&[0; 19], 0x5A);
+    uneven.kinds = Lent::new(&[0; 19], 0x5A);
     let mut no_code = ordinary.clone();
     no_code.code = 0..0;
     vec![
@@ -313,7 +315,7 @@ fn a_size_of_16_bits_is_a_states() {
     assert_eq!(memory.run(9), 101);
     // One slot less.
     let mut memory = Memory::loaded(&sheet(65_535, 65_535, &ADDS, &[]), lengths);
-    memory.slots = common::Lent::new(&[0; 131_069], 0);
+    memory.slots = Lent::new(&[0; 131_069], 0);
     writes_nothing(&memory, Memory::step, 1, &"131,069 slots");
 }
 

@@ -4,7 +4,9 @@
 
 mod common;
 
-use common::{accepted_samples, refused, Lent, Lesson, Memory, Random, ENOUGH};
+use common::memory::{Lent, Memory};
+use common::random::Random;
+use common::{accepted_samples, refused, Lesson, ENOUGH};
 use std::collections::HashSet;
 use workbook_host::{back, step, Answer, End, Parts, Press, Ran, State};
 
@@ -177,7 +179,7 @@ fn junk(random: &mut Random) -> Lesson {
     let kinds: Vec<u8> = (0..pool).map(|_| random.below(8) as u8).collect();
     memory.kinds = Lent::new(&kinds, 0x5A);
     // One word too many, sometimes.
-    let uneven = u64::from(random.below(20) == 0);
+    let uneven = usize::from(random.once_in(20));
     memory.words = Lent::new(&words(random, pool + uneven), 0xFEED_FACE);
     let (max_stack, max_locals) = (random.below(9), random.below(6));
     // Fewer slots than the frame has, sometimes.
@@ -191,10 +193,10 @@ fn junk(random: &mut Random) -> Lesson {
         max_locals: max_locals as u16,
         pc: random.below(length + 1) as u32,
         depth: random.below(max_stack + 2) as u32,
-        count: if random.below(20) == 0 {
+        count: if random.once_in(20) {
             random.next()
         } else {
-            random.below(4)
+            random.below(4) as u64
         },
     };
     Lesson {
@@ -205,14 +207,17 @@ fn junk(random: &mut Random) -> Lesson {
     }
 }
 
-fn words(random: &mut Random, length: u64) -> Vec<u32> {
-    let word = |_| [0, 1, u32::MAX, random.next() as u32][random.below(4) as usize];
+fn words(random: &mut Random, length: usize) -> Vec<u32> {
+    let word = |_| {
+        let any = random.next() as u32;
+        random.pick(&[0, 1, u32::MAX, any])
+    };
     (0..length).map(word).collect()
 }
 
 #[test]
 fn junk_is_answered() {
-    let mut random = Random(4);
+    let mut random = Random::new(4);
     let mut met = HashSet::new();
     for _ in 0..40_000 {
         met.extend(answers(&junk(&mut random)));

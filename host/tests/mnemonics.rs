@@ -3,7 +3,7 @@
 
 mod common;
 
-use common::Random;
+use common::random::Random;
 use std::collections::HashSet;
 use workbook_host::mnemonics::instruction;
 use workbook_host::{step, Answer, Parts, State};
@@ -359,17 +359,19 @@ fn refusal_of(text: &str) -> Option<u32> {
 
 #[test]
 fn what_is_wrong_in_a_text_is_refused_by_the_library() {
-    let mut random = Random(3);
+    let mut random = Random::new(3);
     let mut met = HashSet::new();
     for round in 0..60_000 {
         // Every opcode many times, then mostly small bytes, so that tables are short enough.
-        let length = 1 + random.below(40) as usize;
-        let mut code: Vec<u8> = (0..length)
-            .map(|_| [0, 0, 0, 0, 1, 2, 255, random.next() as u8][random.below(8) as usize])
-            .collect();
-        let pc = random.below(length as u64 + 1) as u32;
+        let length = 1 + random.below(40);
+        let byte = |_| {
+            let any = random.next() as u8;
+            random.pick(&[0, 0, 0, 0, 1, 2, 255, any])
+        };
+        let mut code: Vec<u8> = (0..length).map(byte).collect();
+        let pc = random.below(length + 1) as u32;
         if let Some(opcode) = code.get_mut(pc as usize) {
-            *opcode = [round as u8, 170, 171, 196][random.below(4) as usize];
+            *opcode = random.pick(&[round as u8, 170, 171, 196]);
         }
         let mut state = State {
             max_stack: 6,

@@ -4,7 +4,8 @@
 
 mod common;
 
-use common::{accepted_samples, refused, sample, Lesson, Random};
+use common::random::Random;
+use common::{accepted_samples, refused, sample, Lesson};
 use std::collections::HashSet;
 use workbook_host::{Answer, Press, State, Value};
 
@@ -71,7 +72,7 @@ impl Plain {
 
 #[test]
 fn a_list_is_its_presses_one_by_one() {
-    let mut random = Random(1);
+    let mut random = Random::new(1);
     for sample in accepted_samples() {
         for (entries, length) in [(0, 9), (1, 20), (4, 50), (70, 0), (70, 1), (70, 200)] {
             let list = list(&mut random, length);
@@ -88,7 +89,7 @@ fn a_list_is_its_presses_one_by_one() {
 
 #[test]
 fn every_press_is_answered_as_by_the_plain_walk() {
-    let mut random = Random(2);
+    let mut random = Random::new(2);
     let mut seen = HashSet::new();
     for sample in accepted_samples() {
         for entries in [0, 1, 4, 300] {

@@ -3,7 +3,9 @@
 
 mod common;
 
-use common::{arguments, constant, record, refused, sheet, sizes, Lesson};
+use common::memory::Lent;
+use common::records::{arguments, constant, record, sizes};
+use common::{refused, sheet, Lesson};
 use workbook_host::{Answer, Press, Refusal, Value, Walk};
 
 /// What the last of some forward presses is answered.
@@ -106,10 +108,10 @@ fn refusals_of_a_state_and_its_memory() {
     for press in [Press::Forward, Press::Back] {
         // Three slots are the frame; two are too few.
         let mut few = lesson();
-        few.slots = common::Lent::new(&[0; 2], 9);
+        few.slots = Lent::new(&[0; 2], 9);
         refuses(few, press, 1);
         let mut uneven = lesson();
-        uneven.memory.kinds = common::Lent::new(&[0; 7], 9);
+        uneven.memory.kinds = Lent::new(&[0; 7], 9);
         refuses(uneven, press, 1);
         let mut outside = lesson();
         outside.state.pc = 5;
@@ -130,7 +132,7 @@ fn refusals_of_the_log() {
     assert_eq!(start.press_all(&[Press::Back; 2]), [Answer::Granted; 2]);
     refuses(start, Press::Back, 13);
     let mut short = lesson();
-    short.log = common::Lent::new(&short.log.part()[..19], 9);
+    short.log = Lent::new(&short.log.part()[..19], 9);
     refuses(short, Press::Back, 14);
     // An entry is pc, depth, first place, how many places, six words.
     let bad = [

@@ -3,7 +3,8 @@
 
 mod common;
 
-use common::{accepted_samples, refused, samples, Lengths, Lent, Memory, Sample};
+use common::memory::{Lent, Memory};
+use common::{accepted_samples, refused, samples, Lengths, Sample};
 use std::fmt::Write;
 use workbook_host::{back, forward, load, run, step};
 use workbook_host::{Answer, End, Loaded, Parts, Ran, State, Value};
@@ -156,6 +157,13 @@ fn start(memory: &Memory) -> State {
     }
 }
 
+/// Fails where a walk without history does not stand at a stage.
+#[track_caller]
+fn stands_at((stage, stage_slots): &Stage, state: State, slots: &Lent<u32>, what: &str) {
+    assert!(slots == stage_slots, "{what}");
+    assert_eq!(state, State { count: 0, ..*stage }, "{what}");
+}
+
 /// The lines between the header and the last line of a printed walk.
 fn printed_steps(printed: &str) -> usize {
     printed.lines().count() - 2
@@ -164,22 +172,17 @@ fn printed_steps(printed: &str) -> usize {
 #[test]
 fn back_presses_give_every_stage_again() {
     for sample in accepted_samples() {
-        let Walked {
-            memory,
-            stages,
-            log,
-            answer,
-        } = walked(&sample);
+        let walk = walked(&sample);
         assert_eq!(
-            stages.len() - 1,
+            walk.stages.len() - 1,
             printed_steps(&sample.printed),
             "{}",
             sample.name
         );
         // Only the endless sample meets the log's end.
-        assert_eq!(answer == refused(12), sample.name == "endless");
-        let (mut state, mut slots) = stages.last().unwrap().clone();
-        for (number, stage) in stages.iter().enumerate().rev() {
+        assert_eq!(walk.answer == refused(12), sample.name == "endless");
+        let (mut state, mut slots) = walk.stages.last().unwrap().clone();
+        for (number, stage) in walk.stages.iter().enumerate().rev() {
             assert!(
                 state == stage.0 && slots == stage.1,
                 "{} at {number}",
@@ -191,12 +194,17 @@ fn back_presses_give_every_stage_again() {
             } else {
                 Answer::Granted
             };
-            let answer = back(memory.parts(), slots.part_mut(), log.part(), &mut state);
+            let answer = back(
+                walk.memory.parts(),
+                slots.part_mut(),
+                walk.log.part(),
+                &mut state,
+            );
             assert_eq!(answer, expected, "{} at {number}", sample.name);
         }
         // The refused press at the start changed nothing.
         assert!(
-            state == stages[0].0 && slots == stages[0].1,
+            state == walk.stages[0].0 && slots == walk.stages[0].1,
             "{}",
             sample.name
         );
@@ -206,19 +214,14 @@ fn back_presses_give_every_stage_again() {
 #[test]
 fn back_and_forward_again_gives_the_same_log() {
     for sample in accepted_samples() {
-        let Walked {
-            memory,
-            stages,
-            log,
-            answer,
-        } = walked(&sample);
-        let (mut state, mut slots) = stages[0].clone();
+        let walk = walked(&sample);
+        let (mut state, mut slots) = walk.stages[0].clone();
         // The log may hold anything at first.
-        let mut other_log = log.clone();
+        let mut other_log = walk.log.clone();
         other_log.part_mut().fill(0x1234_5678);
-        for stage in &stages[1..] {
+        for stage in &walk.stages[1..] {
             let again = forward(
-                memory.parts(),
+                walk.memory.parts(),
                 slots.part_mut(),
                 other_log.part_mut(),
                 &mut state,
@@ -227,16 +230,16 @@ fn back_and_forward_again_gives_the_same_log() {
             assert!(state == stage.0 && slots == stage.1, "{}", sample.name);
         }
         let again = forward(
-            memory.parts(),
+            walk.memory.parts(),
             slots.part_mut(),
             other_log.part_mut(),
             &mut state,
         );
-        assert_eq!(again, answer);
-        let used = 10 * (stages.len() - 1);
+        assert_eq!(again, walk.answer);
+        let used = 10 * (walk.stages.len() - 1);
         assert_eq!(
             other_log.part()[..used],
-            log.part()[..used],
+            walk.log.part()[..used],
             "{}",
             sample.name
         );
@@ -249,11 +252,11 @@ fn back_and_forward_again_gives_the_same_log() {
 #[test]
 fn a_run_of_so_many_steps_ends_at_each_stage() {
     for sample in accepted_samples() {
-        let Walked { memory, stages, .. } = walked(&sample);
-        for (number, stage) in stages.iter().enumerate() {
-            let (mut state, mut slots) = stages[0].clone();
+        let walk = walked(&sample);
+        for (number, stage) in walk.stages.iter().enumerate() {
+            let (mut state, mut slots) = walk.stages[0].clone();
             let budget = number as u64;
-            let ran = run(memory.parts(), slots.part_mut(), &mut state, budget);
+            let ran = run(walk.memory.parts(), slots.part_mut(), &mut state, budget);
             assert_eq!(
                 ran,
                 Ran {
@@ -263,16 +266,8 @@ fn a_run_of_so_many_steps_ends_at_each_stage() {
                 "{}",
                 sample.name
             );
-            assert!(slots == stage.1, "{} at {number}", sample.name);
-            assert_eq!(
-                state,
-                State {
-                    count: 0,
-                    ..stage.0
-                },
-                "{} at {number}",
-                sample.name
-            );
+            let what = format!("{} at {number}", sample.name);
+            stands_at(stage, state, &slots, &what);
         }
     }
 }
@@ -280,28 +275,22 @@ fn a_run_of_so_many_steps_ends_at_each_stage() {
 #[test]
 fn a_run_with_budget_left_ends_where_the_walk_ends() {
     for sample in accepted_samples() {
-        let Walked {
-            memory,
-            stages,
-            answer,
-            ..
-        } = walked(&sample);
-        let end = match answer {
+        let walk = walked(&sample);
+        let end = match walk.answer {
             // A run has no log, so it does not end here.
-            _ if answer == refused(12) => continue,
+            answer if answer == refused(12) => continue,
             Answer::Return(value) => End::Return(value),
             Answer::Throw => End::Throw,
             Answer::Refused(refusal) => End::Refused(refusal),
             Answer::Granted => unreachable!("the last press is not granted"),
         };
-        let steps = stages.len() as u64 - 1;
+        let steps = walk.stages.len() as u64 - 1;
         for budget in [steps + 1, steps + 2, u64::MAX] {
-            let (mut state, mut slots) = stages[0].clone();
-            let ran = run(memory.parts(), slots.part_mut(), &mut state, budget);
+            let (mut state, mut slots) = walk.stages[0].clone();
+            let ran = run(walk.memory.parts(), slots.part_mut(), &mut state, budget);
             assert_eq!(ran, Ran { end, steps }, "{}", sample.name);
-            let (last, last_slots) = stages.last().unwrap();
-            assert!(slots == *last_slots, "{}", sample.name);
-            assert_eq!(state, State { count: 0, ..*last }, "{}", sample.name);
+            let last = walk.stages.last().unwrap();
+            stands_at(last, state, &slots, &sample.name);
         }
     }
 }
@@ -309,31 +298,20 @@ fn a_run_with_budget_left_ends_where_the_walk_ends() {
 #[test]
 fn a_step_is_a_forward_press_without_history() {
     for sample in accepted_samples() {
-        let Walked {
-            memory,
-            stages,
-            answer,
-            ..
-        } = walked(&sample);
-        let (mut state, mut slots) = stages[0].clone();
-        for stage in &stages[1..] {
+        let walk = walked(&sample);
+        let (mut state, mut slots) = walk.stages[0].clone();
+        for stage in &walk.stages[1..] {
             assert_eq!(
-                step(memory.parts(), slots.part_mut(), &mut state),
+                step(walk.memory.parts(), slots.part_mut(), &mut state),
                 Answer::Granted
             );
-            assert!(slots == stage.1, "{}", sample.name);
-            assert_eq!(
-                state,
-                State {
-                    count: 0,
-                    ..stage.0
-                },
-                "{}",
-                sample.name
-            );
+            stands_at(stage, state, &slots, &sample.name);
         }
-        if answer != refused(12) {
-            assert_eq!(step(memory.parts(), slots.part_mut(), &mut state), answer);
+        if walk.answer != refused(12) {
+            assert_eq!(
+                step(walk.memory.parts(), slots.part_mut(), &mut state),
+                walk.answer
+            );
         }
     }
 }
@@ -341,10 +319,10 @@ fn a_step_is_a_forward_press_without_history() {
 #[test]
 fn what_a_walk_only_reads_stays() {
     for sample in accepted_samples() {
-        let Walked { memory, stages, .. } = walked(&sample);
+        let walk = walked(&sample);
         let mut expected = Memory::loaded(&sample.sheet, LENGTHS);
-        assert!(expected.slots == stages[0].1);
-        expected.code = memory.code.clone();
-        memory.assert_equals(&expected, &sample.name);
+        assert!(expected.slots == walk.stages[0].1);
+        expected.code = walk.memory.code.clone();
+        walk.memory.assert_equals(&expected, &sample.name);
     }
 }

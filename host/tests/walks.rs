@@ -3,7 +3,8 @@
 
 mod common;
 
-use common::{accepted_samples, constant, record, refused, sample, samples, sheet, sizes};
+use common::records::{arguments, constant, record, sizes};
+use common::{accepted_samples, refused, sample, samples, sheet};
 use workbook_host::{Answer, End, Value, Walk};
 
 #[test]
@@ -22,7 +23,7 @@ fn there_is_memory_for_every_sheet() {
     let long = constant(65_534, 5, &0x1122_3344_5566_7788_u64.to_be_bytes());
     // LDC2_W 65534, LRETURN.
     let code = record(b"CD", &[0x14, 0xFF, 0xFE, 0xAD]);
-    let sheet = [sizes(65_535, 65_535), code, long, common::arguments(&[1])].concat();
+    let sheet = [sizes(65_535, 65_535), code, long, arguments(&[1])].concat();
     let mut walk = Walk::open(sheet).unwrap();
     assert_eq!((walk.locals().len(), walk.frame().len()), (65_535, 131_070));
     assert_eq!(walk.forward(), Answer::Granted);

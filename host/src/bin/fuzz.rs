@@ -32,20 +32,28 @@ mod cases;
 mod codes;
 #[path = "fuzz/counts.rs"]
 mod counts;
-#[path = "fuzz/memory.rs"]
-mod memory;
+#[path = "fuzz/lent.rs"]
+mod lent;
 #[path = "fuzz/model.rs"]
 mod model;
+#[path = "fuzz/numbers.rs"]
+mod numbers;
 #[path = "fuzz/promise.rs"]
 mod promise;
-#[path = "fuzz/random.rs"]
-mod random;
 #[path = "fuzz/rules.rs"]
 mod rules;
 #[path = "fuzz/sheets.rs"]
 mod sheets;
 #[path = "fuzz/smaller.rs"]
 mod smaller;
+
+// What the tests use too.
+#[path = "../../tests/common/memory.rs"]
+mod memory;
+#[path = "../../tests/common/random.rs"]
+mod random;
+#[path = "../../tests/common/records.rs"]
+mod records;
 
 use counts::Counts;
 use memory::{Function, Lent, Memory};
@@ -133,9 +141,7 @@ impl Fuzz {
                 return Ok(());
             }
             if number == 0 {
-                let place = memory.answer.part();
-                let (start, length) = (place[0] as usize, place[1] as usize);
-                memory.code = start..start + length;
+                memory.take_code();
                 let presses = 1 + random.below((memory.log.len() / 10).min(30) + 1);
                 self.there_and_back(&memory, presses)?;
             }
@@ -209,7 +215,7 @@ impl Fuzz {
         let mut single = memory.clone();
         for (i, &press) in memory.presses.part().iter().enumerate() {
             // A press of a list needs no answer words: lend it zeros, so that a value shows.
-            single.answer = Lent::new(&[0; 4], &mut Random::new(0, 0), self.bare);
+            single.answer = Lent::guarded(&[0; 4], &mut Random::of_case(0, 0), self.bare);
             let function = if press == 0 {
                 Function::Back
             } else {
@@ -279,7 +285,7 @@ fn main() -> ExitCode {
             eprintln!("{} calls, at case {case}", fuzz.counts.calls);
             told += 100_000;
         }
-        if let Err(wrong) = fuzz.case(&mut Random::new(seed, case)) {
+        if let Err(wrong) = fuzz.case(&mut Random::of_case(seed, case)) {
             let call = fuzz.counts.calls;
             println!("wrong at call {call}, case {case} of seed {seed}");
             tell(*wrong);

@@ -3,10 +3,17 @@
 // Each test program has its own copy and uses a part of it.
 #![allow(dead_code)]
 
-use std::ops::Range;
+// The fuzz program has these three too.
+pub mod memory;
+pub mod random;
+pub mod records;
+
+use memory::{Function, Lent, Memory, GUARD};
+use records::{arguments, record, sizes};
+use std::fmt::{Display, UpperHex};
+use std::fs;
 use std::path::{Path, PathBuf};
-use std::{fmt, fs};
-use workbook_host::{ffi, Answer, Parts, Press, Ran, Refusal, State};
+use workbook_host::{Answer, Parts, Press, Ran, Refusal, State};
 
 /// A sample: its sheet, and what `walksheet` prints of it.
 pub struct Sample {
@@ -60,36 +67,6 @@ pub fn refused(number: u32) -> Answer {
     Answer::Refused(Refusal::new(number).unwrap())
 }
 
-/// One record of a sheet.
-pub fn record(mark: &[u8; 2], body: &[u8]) -> Vec<u8> {
-    let length = u16::try_from(body.len()).unwrap().to_be_bytes();
-    [mark, &length[..], body].concat()
-}
-
-/// A constant's record.
-pub fn constant(index: u16, tag: u8, value: &[u8]) -> Vec<u8> {
-    record(b"KI", &[&index.to_be_bytes()[..], &[tag], value].concat())
-}
-
-/// The record with the sizes.
-pub fn sizes(max_stack: u16, max_locals: u16) -> Vec<u8> {
-    record(
-        b"LM",
-        &[max_stack.to_be_bytes(), max_locals.to_be_bytes()].concat(),
-    )
-}
-
-/// The record with the arguments.
-pub fn arguments(words: &[u32]) -> Vec<u8> {
-    record(
-        b"AR",
-        &words
-            .iter()
-            .flat_map(|word| word.to_be_bytes())
-            .collect::<Vec<_>>(),
-    )
-}
-
 /// A sheet without constants.
 pub fn sheet(max_stack: u16, max_locals: u16, code: &[u8], words: &[u32]) -> Vec<u8> {
     [
@@ -100,48 +77,12 @@ pub fn sheet(max_stack: u16, max_locals: u16, code: &[u8], words: &[u32]) -> Vec
     .concat()
 }
 
-/// Guard elements on each side of a lent part.
-const GUARD: usize = 16;
-
-/// A part to lend, with guard elements before and after it. Two of them are equal where their parts
-/// and their guards are equal, so that one comparison with a copy made before a call shows whether
-/// anything was written.
-#[derive(Clone, PartialEq)]
-pub struct Lent<T> {
-    all: Vec<T>,
-}
-
-impl<T: Copy> Lent<T> {
+impl<T: Copy + PartialEq + UpperHex> Lent<T> {
+    /// A part between guards that are all the same.
     pub fn new(part: &[T], guard: T) -> Lent<T> {
-        let guards = vec![guard; GUARD];
-        Lent {
-            all: [&guards, part, &guards].concat(),
-        }
+        let guards = [guard; GUARD];
+        Lent::between(&guards, part, &guards)
     }
-
-    pub fn part(&self) -> &[T] {
-        &self.all[GUARD..self.all.len() - GUARD]
-    }
-
-    pub fn part_mut(&mut self) -> &mut [T] {
-        let end = self.all.len() - GUARD;
-        &mut self.all[GUARD..end]
-    }
-}
-
-/// All parts that a call may be lent, each with guards, filled with junk at first.
-#[derive(Clone, PartialEq)]
-pub struct Memory {
-    pub sheet: Lent<u8>,
-    pub code: Range<usize>,
-    pub kinds: Lent<u8>,
-    pub words: Lent<u32>,
-    pub slots: Lent<u32>,
-    pub log: Lent<u32>,
-    pub state: Lent<u32>,
-    pub answer: Lent<u32>,
-    pub presses: Lent<u8>,
-    pub answers: Lent<u32>,
 }
 
 /// How many words the parts of a memory have.
@@ -167,6 +108,7 @@ pub const ENOUGH: Lengths = Lengths {
 };
 
 impl Memory {
+    /// A sheet, and parts of these lengths that are filled with junk.
     pub fn new(sheet: &[u8], lengths: Lengths) -> Memory {
         let junk = |length| Lent::new(&vec![0xDEAD_BEEF_u32; length], 0xFEED_FACE);
         Memory {
@@ -180,6 +122,7 @@ impl Memory {
             answer: junk(lengths.answer),
             presses: Lent::new(&[], 0x5A),
             answers: junk(0),
+            budget: 0,
         }
     }
 
@@ -187,8 +130,7 @@ impl Memory {
     pub fn loaded(sheet: &[u8], lengths: Lengths) -> Memory {
         let mut memory = Memory::new(sheet, lengths);
         assert_eq!(memory.load(), 0);
-        let (start, length) = (memory.answer.part()[0], memory.answer.part()[1]);
-        memory.code = start as usize..(start + length) as usize;
+        memory.take_code();
         memory.answer.part_mut().fill(0xDEAD_BEEF);
         memory
     }
@@ -215,96 +157,45 @@ impl Memory {
     }
 
     pub fn load(&mut self) -> u32 {
-        ffi::load(
-            self.sheet.part(),
-            self.slots.part_mut(),
-            self.kinds.part_mut(),
-            self.words.part_mut(),
-            self.state.part_mut(),
-            self.answer.part_mut(),
-        )
+        Function::Load.call(self)
     }
 
     pub fn step(&mut self) -> u32 {
-        ffi::step(
-            &self.sheet.part()[self.code.clone()],
-            self.kinds.part(),
-            self.words.part(),
-            self.slots.part_mut(),
-            self.state.part_mut(),
-            self.answer.part_mut(),
-        )
+        Function::Step.call(self)
     }
 
     pub fn forward(&mut self) -> u32 {
-        ffi::forward(
-            &self.sheet.part()[self.code.clone()],
-            self.kinds.part(),
-            self.words.part(),
-            self.slots.part_mut(),
-            self.log.part_mut(),
-            self.state.part_mut(),
-            self.answer.part_mut(),
-        )
+        Function::Forward.call(self)
     }
 
     pub fn back(&mut self) -> u32 {
-        ffi::back(
-            &self.sheet.part()[self.code.clone()],
-            self.kinds.part(),
-            self.words.part(),
-            self.slots.part_mut(),
-            self.log.part(),
-            self.state.part_mut(),
-        )
+        Function::Back.call(self)
     }
 
     pub fn run(&mut self, budget: u64) -> u32 {
-        ffi::run(
-            &self.sheet.part()[self.code.clone()],
-            self.kinds.part(),
-            self.words.part(),
-            self.slots.part_mut(),
-            self.state.part_mut(),
-            self.answer.part_mut(),
-            budget,
-        )
+        self.budget = budget;
+        Function::Run.call(self)
     }
 
     pub fn presses(&mut self) -> u32 {
-        ffi::presses(
-            &self.sheet.part()[self.code.clone()],
-            self.kinds.part(),
-            self.words.part(),
-            self.slots.part_mut(),
-            self.log.part_mut(),
-            self.state.part_mut(),
-            self.presses.part(),
-            self.answers.part_mut(),
-        )
+        Function::Presses.call(self)
     }
 
     /// What the typed functions are lent of it.
     pub fn parts(&self) -> Parts<'_> {
-        let code = &self.sheet.part()[self.code.clone()];
         Parts {
-            code,
+            code: self.code(),
             kinds: self.kinds.part(),
             words: self.words.part(),
         }
     }
 
-    /// Fails where this memory and another differ, and names the first part and place.
-    pub fn assert_equals(&self, expected: &Memory, what: &dyn fmt::Display) {
-        same_part("sheet", &self.sheet, &expected.sheet, what);
-        same_part("kinds", &self.kinds, &expected.kinds, what);
-        same_part("words", &self.words, &expected.words, what);
-        same_part("slots", &self.slots, &expected.slots, what);
-        same_part("log", &self.log, &expected.log, what);
-        same_part("state", &self.state, &expected.state, what);
-        same_part("answer", &self.answer, &expected.answer, what);
-        same_part("presses", &self.presses, &expected.presses, what);
-        same_part("answers", &self.answers, &expected.answers, what);
+    /// Fails where a part or a guard is not what it should be, and says which.
+    #[track_caller]
+    pub fn assert_equals(&self, expected: &Memory, what: &dyn Display) {
+        if let Some(difference) = self.difference(expected) {
+            panic!("{what}: {difference}");
+        }
     }
 }
 
@@ -376,42 +267,5 @@ impl Lesson {
             self.log.part_mut(),
         );
         workbook_host::presses(parts, slots, log, &mut self.state, list)
-    }
-}
-
-fn same_part<T: PartialEq + fmt::Debug>(
-    name: &str,
-    part: &Lent<T>,
-    expected: &Lent<T>,
-    what: &dyn fmt::Display,
-) {
-    assert_eq!(
-        part.all.len(),
-        expected.all.len(),
-        "{what}: length of {name}"
-    );
-    for (place, (word, other)) in part.all.iter().zip(&expected.all).enumerate() {
-        // Places before the part are guards, so they count from below 0.
-        let place = place as i64 - GUARD as i64;
-        assert_eq!(word, other, "{what}: {name} at {place}");
-    }
-}
-
-/// Numbers that look random and are the same at every run.
-pub struct Random(pub u64);
-
-impl Random {
-    pub fn next(&mut self) -> u64 {
-        // The generator splitmix64.
-        self.0 = self.0.wrapping_add(0x9E37_79B9_7F4A_7C15);
-        let mut mixed = self.0;
-        mixed = (mixed ^ (mixed >> 30)).wrapping_mul(0xBF58_476D_1CE4_E5B9);
-        mixed = (mixed ^ (mixed >> 27)).wrapping_mul(0x94D0_49BB_1331_11EB);
-        mixed ^ (mixed >> 31)
-    }
-
-    /// A number below a bound.
-    pub fn below(&mut self, bound: u64) -> u64 {
-        self.next() % bound
     }
 }

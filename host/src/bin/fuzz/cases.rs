@@ -55,21 +55,21 @@ fn lent(random: &mut Random, sheet: &[u8], needs: [usize; 2], large: bool, bare:
     let (state, answer) = (short_part(random, 6), short_part(random, 4));
     let mut part = |length: usize| {
         let words = random.words(length);
-        Lent::new(&words, random, bare)
+        Lent::guarded(&words, random, bare)
     };
     let (words, slots, log) = (part(words), part(slots), part(log));
     let (state, answer, answers) = (part(state), part(answer), part(0));
     let kinds = random.bytes(kinds);
     Memory {
-        sheet: Lent::new(sheet, random, bare),
+        sheet: Lent::guarded(sheet, random, bare),
         code: 0..sheet.len(),
-        kinds: Lent::new(&kinds, random, bare),
+        kinds: Lent::guarded(&kinds, random, bare),
         words,
         slots,
         log,
         state,
         answer,
-        presses: Lent::new(&[], random, bare),
+        presses: Lent::guarded(&[], random, bare),
         answers,
         budget: 0,
     }
@@ -268,7 +268,7 @@ pub fn lend_presses(random: &mut Random, memory: &mut Memory) {
         1..=4 => random.around(3 * many),
         _ => 3 * many + random.below(5),
     };
-    memory.presses = Lent::new(&presses, random, memory.presses.is_bare());
+    memory.presses = Lent::guarded(&presses, random, memory.presses.is_bare());
     memory.answers.resize(room, random);
 }
 

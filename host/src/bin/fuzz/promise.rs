@@ -1,7 +1,8 @@
 //! What the boundary (include/workbook.h) lets a call write, and what it says of every granted call, without a look at any
 //! instruction: this holds whatever the rules of the instructions are.
 
-use super::memory::{Element, Function, Lent, Memory};
+use super::lent::Element;
+use super::memory::{Function, Lent, Memory};
 use std::ops::Range;
 
 type Kept = Result<(), String>;

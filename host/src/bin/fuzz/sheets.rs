@@ -2,6 +2,7 @@
 
 use super::codes::{code, long_code, shape};
 use super::random::Random;
+use super::records::{arguments, constant, record, sizes};
 
 const SAMPLES: [&[u8]; 18] = [
     include_bytes!("../../../../samples/division_by_zero.sheet"),
@@ -24,11 +25,6 @@ const SAMPLES: [&[u8]; 18] = [
     include_bytes!("../../../../samples/wide.sheet"),
 ];
 
-fn record(mark: &[u8], body: &[u8]) -> Vec<u8> {
-    let length = (body.len() as u16).to_be_bytes();
-    [mark, &length, body].concat()
-}
-
 /// A sheet of one method, whose sizes, indices and arguments are sometimes wrong.
 fn built(random: &mut Random, large: bool) -> Vec<u8> {
     let shape = shape(random);
@@ -37,11 +33,7 @@ fn built(random: &mut Random, large: bool) -> Vec<u8> {
         max_stack = random.pick(&[0, 4, 65_535]);
         max_locals = random.pick(&[0, 4, 16_383, 65_535]);
     }
-    let sizes = [
-        (max_stack as u16).to_be_bytes(),
-        (max_locals as u16).to_be_bytes(),
-    ];
-    let mut sheet = record(b"LM", &sizes.concat());
+    let mut sheet = sizes(max_stack as u16, max_locals as u16);
     let mut code = if large {
         long_code(random, &shape)
     } else {
@@ -57,13 +49,10 @@ fn built(random: &mut Random, large: bool) -> Vec<u8> {
     }
     for &kind in &kinds {
         let long = matches!(kind, 5 | 6);
-        let mut body = (index as u16).to_be_bytes().to_vec();
-        body.push(kind);
-        for _ in 0..1 + usize::from(long) {
-            body.extend(random.word().to_be_bytes());
-        }
-        sheet.extend(record(b"KI", &body));
-        index += 1 + usize::from(long);
+        let many = 1 + usize::from(long);
+        let value: Vec<_> = (0..many).map(|_| random.word().to_be_bytes()).collect();
+        sheet.extend(constant(index as u16, kind, value.as_flattened()));
+        index += many;
         if kinds.len() > 8 {
             continue;
         }
@@ -79,9 +68,7 @@ fn built(random: &mut Random, large: bool) -> Vec<u8> {
         0 => random.around(max_locals),
         _ => random.below(max_locals + 1),
     };
-    let words = random.words(many.min(16_383));
-    let body: Vec<u8> = words.iter().flat_map(|word| word.to_be_bytes()).collect();
-    sheet.extend(record(b"AR", &body));
+    sheet.extend(arguments(&random.words(many.min(16_383))));
     sheet
 }
 

@@ -1,7 +1,8 @@
 //! A smaller memory on which a call still goes wrong, for whoever has to find out why.
 
 use super::compare;
-use super::memory::{Element, Function, Memory};
+use super::lent::Element;
+use super::memory::{Function, Memory};
 
 /// Parts up to this length lose single elements.
 const SHORT: usize = 100;

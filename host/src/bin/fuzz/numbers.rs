@@ -1,7 +1,6 @@
-//! A seeded generator, and numbers that are often at a limit.
+//! Random numbers that are often at a limit.
 
-/// SplitMix64: each seed is a row of its own, so that a case is made again from its number alone.
-pub struct Random(u64);
+use super::random::Random;
 
 /// Words at which something changes: sizes of 16 bits, signs, and the corners of floats.
 const CORNERS: [u32; 32] = [
@@ -86,31 +85,10 @@ const COUNTS: [u64; 11] = [
 ];
 
 impl Random {
-    pub fn new(seed: u64, case: u64) -> Random {
-        let mut random = Random(seed);
-        Random(random.next() ^ case.wrapping_mul(0xD134_2543_DE82_EF95))
-    }
-
-    pub fn next(&mut self) -> u64 {
-        self.0 = self.0.wrapping_add(0x9E37_79B9_7F4A_7C15);
-        let mut mixed = self.0;
-        mixed = (mixed ^ (mixed >> 30)).wrapping_mul(0xBF58_476D_1CE4_E5B9);
-        mixed = (mixed ^ (mixed >> 27)).wrapping_mul(0x94D0_49BB_1331_11EB);
-        mixed ^ (mixed >> 31)
-    }
-
-    /// A number below a limit, and 0 where the limit is 0.
-    pub fn below(&mut self, limit: usize) -> usize {
-        ((u128::from(self.next()) * limit as u128) >> 64) as usize
-    }
-
-    /// True once in so many times.
-    pub fn once_in(&mut self, times: usize) -> bool {
-        self.below(times) == 0
-    }
-
-    pub fn pick<T: Copy>(&mut self, from: &[T]) -> T {
-        from[self.below(from.len())]
+    /// A row of its own for each case, so that a case is made again from its number alone.
+    pub fn of_case(seed: u64, case: u64) -> Random {
+        let first = Random::new(seed).next();
+        Random::new(first ^ case.wrapping_mul(0xD134_2543_DE82_EF95))
     }
 
     /// A number at a limit, just before it or just after it.
