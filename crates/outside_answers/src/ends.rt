@@ -1,4 +1,4 @@
-// How a run ended, as a line. A NaN is shown as such: Java leaves its bits open.
+// How a run ended, as a line. Java leaves the bits of a NaN open; for its answers a NaN is shown as such.
 use printing::print;
 use printing::print_end;
 use rules::End;
@@ -24,13 +24,13 @@ fn is_nan_double(end: End) -> bool {
     false
 }
 
-// Prints how a run ended.
-pub(crate) fn print_line(end: End) {
-    if is_nan_float(end) {
+// Prints how a run ended, the bits of a NaN only if they are asked for.
+pub(crate) fn print_line(end: End, bits: bool) {
+    if !bits && is_nan_float(end) {
         print(b"return float nan\n");
         return;
     }
-    if is_nan_double(end) {
+    if !bits && is_nan_double(end) {
         print(b"return double nan\n");
         return;
     }

@@ -2,8 +2,8 @@
 use mathlib.Core.Path.{sym}
 use borrow.Table.Elements.{length-take-le}
 use borrow.Author.Needs.{needs}
-use Rattle.jvm_cases.proofs.read_sheet.Statement.{statement}
-use Rattle.jvm_cases.proofs.read_sheet.Tie as tie
+use Rattle.outside_answers.proofs.read_sheet.Statement.{statement}
+use Rattle.outside_answers.proofs.read_sheet.Tie as tie
 
 slice-relend-prefix-read-full : tie.Need-slice-relend-prefix-read-full
 slice-relend-prefix-read-full c = search needs

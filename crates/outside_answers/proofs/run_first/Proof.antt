@@ -2,8 +2,8 @@
 use mathlib.Core.Path.{sym}
 use borrow.Table.Elements.{length-take-le}
 use borrow.Author.Needs.{needs}
-use Rattle.jvm_cases.proofs.run_first.Statement.{statement}
-use Rattle.jvm_cases.proofs.run_first.Tie as tie
+use Rattle.outside_answers.proofs.run_first.Statement.{statement}
+use Rattle.outside_answers.proofs.run_first.Tie as tie
 
 slice-aggregate-run-sheet : tie.Need-slice-aggregate-run-sheet
 slice-aggregate-run-sheet c = sym (length-take-le (c .before .before .before .before .before .before .args .n) (c .before .before .before .before .before .before .args .sheet .now) (c .before .if1 .taken))

@@ -1,7 +1,7 @@
 -- `main` is safe and ends. Assumes nothing.
 use borrow.Author.Needs.{needs}
-use Rattle.jvm_cases.proofs.main.Statement.{statement}
-use Rattle.jvm_cases.proofs.main.Tie as tie
+use Rattle.outside_answers.proofs.main.Statement.{statement}
+use Rattle.outside_answers.proofs.main.Tie as tie
 
 abbrev Inv-loop : tie.InvT-loop
 Inv-loop turns₀ turns = Unit {0}

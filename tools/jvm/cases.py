@@ -1,0 +1,71 @@
+"""Methods as sheets, how the exported library ends them, and which rows of docs/DIFFERENCES.md their walks meet.
+
+Needs target/staticlib/libworkbook.a (rt staticlib workbook) and a C compiler.
+"""
+
+import pathlib
+import subprocess
+import sys
+
+ROOT = pathlib.Path(__file__).resolve().parent.parent.parent
+
+
+class Case:
+    def __init__(self, number, sheet, want, rust=None):
+        self.number, self.sheet, self.want, self.rust = number, sheet, want, rust
+        self.owed, self.rows, self.because = None, [], None
+
+
+def is_nan(line):
+    kind, _, digits = line.removeprefix("return ").partition(" ")
+    if kind == "float":
+        return int(digits, 16) & 0x7FFFFFFF > 0x7F800000
+    return kind == "double" and int(digits, 16) & 0x7FFFFFFFFFFFFFFF > 0x7FF0000000000000
+
+
+def agrees(line, want):
+    """Whether the library's line is HotSpot's."""
+    if want.endswith(" nan"):
+        return line.startswith(want[:-3]) and is_nan(line)
+    return line == want
+
+
+def unpack(data):
+    """The mark and the sheet of each case of a file."""
+    out, at = [], 0
+    while at < len(data):
+        length = int.from_bytes(data[at + 1 : at + 4], "big")
+        out.append((data[at], data[at + 4 : at + 4 + length]))
+        at += 4 + length
+    return out
+
+
+def read(cases, ends):
+    sheets, wants = unpack(pathlib.Path(cases).read_bytes()), pathlib.Path(ends).read_text().splitlines()
+    if len(sheets) != len(wants):
+        sys.exit(f"{cases} and {ends} do not belong together")
+    return [Case(number, sheet, want) for number, ((_, sheet), want) in enumerate(zip(sheets, wants))]
+
+
+def pack(cases, mark=0):
+    """Each sheet after a mark in one byte and its length in three."""
+    return b"".join(bytes([mark]) + len(c.sheet).to_bytes(3, "big") + c.sheet for c in cases)
+
+
+def build_walk(program):
+    library = ROOT / "target" / "staticlib" / "libworkbook.a"
+    source = ROOT / "tools" / "jvm" / "walk.c"
+    subprocess.run(["cc", "-std=c99", "-O2", "-Wall", "-Wextra", "-Werror", f"-I{ROOT / 'include'}", source, library, "-lm", "-o", program], check=True)
+
+
+def walked(folder, cases, *option):
+    file = folder / "cases"
+    file.write_bytes(pack(cases))
+    return subprocess.run([folder / "walk", *option, file], check=True, stdout=subprocess.PIPE, text=True).stdout.splitlines()
+
+
+def walk(folder, cases):
+    """The library's line and the rows met, for each case."""
+    for case, line in zip(cases, walked(folder, cases), strict=True):
+        case.owed, rows, _ = line.split("\t")
+        case.rows = rows.split()
