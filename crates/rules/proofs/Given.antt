@@ -1,8 +1,7 @@
 -- The step and the run on given lists and numbers, open to computation: whoever unfolds `decided` or `ran` unfolds all that they go through.
 -- Examples, and short ways to write them. Assumes nothing.
 use Prim.Native.Nat.{ℕ, _-_}
-use mathlib.Core.Path.{_≡_}
-use mathlib.Core.List.{List, [], _∷_, _++_, map}
+use mathlib.Core.List.{List, [], _∷_, _++_}
 use lib.ListN.{length, getD, replicate}
 use lib.Ieee as Ieee
 use Rattle.values.specs.Integers.{signed, low, bitwise, flipped}
@@ -10,7 +9,6 @@ use Rattle.values.specs.Floats.{nearest}
 use Rattle.rules.specs.declared.State.{State}
 use Rattle.rules.specs.declared.Decision.{Decision}
 use Rattle.rules.specs.declared.Decision.the-variants.{Ordinary}
-use Rattle.rules.specs.declared.End.{End}
 use Rattle.rules.specs.Asked.{_else_, _>>_, _>>=_}
 use Rattle.rules.specs.Instructions.{rowOf}
 use Rattle.rules.specs.Fetch.{wideAsked, tableAsked, lookupAsked, offsetsFrom, pairsFrom, fetched}
@@ -46,16 +44,6 @@ unfoldable pub ran : Lent → ℕ → State → List ℕ → Ran
 unfolding runOf runFrom decided
 ran l budget s slots = runOf l budget s slots
 
--- ---- a table of examples
-
-infix 90 _equals_
-abbrev pub _equals_ : {A : Type 0} → A → A → (A × A)
-a equals b = (a, b)
-
--- each left side computes to its right side
-abbrev pub AllHold : {A : Type 0} → List (A × A) → Type 0
-AllHold {A} facts = _≡_ {A = List A} (map (λ p. p .0) facts) (map (λ p. p .1) facts)
-
 -- ---- one instruction of one byte, on an operand stack that holds these words, lowest first, and room for eight
 
 unfoldable pub on : ℕ → List ℕ → Decision
@@ -65,18 +53,3 @@ on op ws = decided (lent (op ∷ 0 ∷ []) [] []) (state 8 0 0 (length ws) 0) (w
 -- it leaves these words, all of them pushed
 abbrev pub leaves : List ℕ → Decision
 leaves ws = changes 1 (length ws) 0 ws
-
--- ---- a branch by 6, on such a stack; it goes on at an offset
-
-unfoldable pub if : ℕ → List ℕ → Decision
-unfolding decided
-if op ws = decided (lent (op ∷ 0 ∷ 6 ∷ 0 ∷ 0 ∷ 0 ∷ 0 ∷ []) [] []) (state 8 0 0 (length ws) 0) (ws ++ replicate (8 - length ws) 0)
-
-abbrev pub goes : ℕ → Decision
-goes pc = changes pc 0 0 []
-
--- ---- a whole method with no arguments, run from its start
-
-unfoldable pub method : ℕ → ℕ → List ℕ → List ℕ → List ℕ → End
-unfolding ran
-method stack locals code kinds words = ran (lent code kinds words) 1600 (state stack locals 0 0 0) (replicate locals 0 ++ replicate stack 0) .end

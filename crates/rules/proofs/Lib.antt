@@ -18,8 +18,4 @@ pub mod Replay
 mod Given
 mod Examples
 mod Shapes
-mod Facts
-mod Refusals
-mod Walks
-mod Sheets
-mod Presses
+mod Plain

@@ -2,5 +2,3 @@
 pub mod Integers
 pub mod LowBits
 pub mod Words
--- Examples, which only the checker reads
-mod Examples
