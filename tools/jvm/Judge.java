@@ -3,6 +3,7 @@ import java.io.DataOutputStream;
 import java.nio.file.Files;
 import java.nio.file.Path;
 import java.util.ArrayList;
+import java.util.Arrays;
 import java.util.HashMap;
 import java.util.List;
 import java.util.Map;
@@ -10,14 +11,14 @@ import java.util.regex.Matcher;
 import java.util.regex.Pattern;
 
 /**
- * Asks the Java virtual machine that runs this whether the facts of crates/rules/proofs are its own.
+ * Asks the Java virtual machine that runs this whether the outside values of this repository are its own.
  *
- * <p>Each fact becomes a class file (version 49, which its verifier takes without stack maps) that is verified, run and compared:
- * the kinds that each instruction pops and pushes and its length (Shapes.antt), what one instruction does with words (`on`), where a
- * branch goes (`if`), what a whole method returns (`method`). It shares no text with the definitions.
+ * <p>Each becomes a class file (version 49, which its verifier takes without stack maps) that is verified, run and compared: the kinds that each
+ * instruction pops and pushes and its length (crates/rules/proofs/Shapes.antt); what one instruction does with values, which branches are taken
+ * and how whole methods end (tools/vectors/facts.txt); each vector of arithmetic (crates/arithmetic_vectors/stdin).
  * A NaN of float arithmetic has an open payload here and a fixed one there: two NaNs count as equal where a float is computed.
  *
- * <p>Usage: java tools/jvm/Judge.java FILE.antt..   (from the repository's root)
+ * <p>Usage: java tools/jvm/Judge.java   (from the repository's root)
  */
 public final class Judge {
   static final String KINDS = "IJFDA"; // int, long, float, double, reference
@@ -110,100 +111,90 @@ public final class Judge {
     return "(" + arguments + ")" + (kind == 'A' ? "Ljava/lang/Object;" : kind);
   }
 
-  // ---- values as words, low word first
+  // ---- values as bits, in hexadecimal
 
-  static int take(Body body, char kind, List<Long> words, int at) {
-    long low = words.get(at);
+  static void push(Body body, char kind, String digits) {
+    long bits = Long.parseUnsignedLong(digits, 16);
     switch (kind) {
-      case 'I' -> body.constant(19, (int) low);
-      case 'F' -> body.constant(19, Float.intBitsToFloat((int) low));
-      case 'J' -> body.constant(20, low + (words.get(at + 1) << 32));
-      case 'D' -> body.constant(20, Double.longBitsToDouble(low + (words.get(at + 1) << 32)));
-      default -> body.op(low == 0 ? 1 : low == 1 ? 42 : 43); // null, or one of the two objects that the method is given
+      case 'I' -> body.constant(19, (int) bits);
+      case 'F' -> body.constant(19, Float.intBitsToFloat((int) bits));
+      case 'J' -> body.constant(20, bits);
+      case 'D' -> body.constant(20, Double.longBitsToDouble(bits));
+      default -> body.op(bits == 0 ? 1 : bits == 1 ? 42 : 43); // null, or one of the two objects that the method is given
     }
-    return at + (kind == 'J' || kind == 'D' ? 2 : 1);
   }
 
-  static List<Long> words(Object value) {
-    if (value instanceof Integer i) return List.of(i & 0xFFFFFFFFL);
-    if (value instanceof Float f) return List.of(Float.floatToRawIntBits(f) & 0xFFFFFFFFL);
-    long bits = value instanceof Long l ? l : Double.doubleToRawLongBits((Double) value);
-    return List.of(bits & 0xFFFFFFFFL, bits >>> 32);
+  static String digits(Object value) {
+    if (value == null) return "00000000";
+    if (value instanceof Integer i) return String.format("%08X", i);
+    if (value instanceof Float f) return String.format("%08X", Float.floatToRawIntBits(f));
+    return String.format("%016X", value instanceof Long l ? l : Double.doubleToRawLongBits((Double) value));
   }
 
-  static boolean same(Object value, List<Long> want, boolean computed) {
-    if (computed && value instanceof Float f && f.isNaN()) return want.equals(List.of(0x7FC00000L));
-    if (computed && value instanceof Double d && d.isNaN()) return want.equals(List.of(0L, 0x7FF80000L));
-    return words(value).equals(want);
+  /** The digits of a float or a double that was computed: those of the fixed NaN for each NaN. */
+  static String computed(Object value) {
+    if (value instanceof Float f && f.isNaN()) return "7FC00000";
+    if (value instanceof Double d && d.isNaN()) return "7FF8000000000000";
+    return digits(value);
   }
 
   // ---- the facts
 
-  /** What an opcode does with the words on an operand stack that holds nothing else. */
-  static String on(int opcode, List<Long> stack, String want) throws Throwable {
+  /** What an opcode leaves of the values on a stack that holds nothing else. */
+  static String instruction(int opcode, String... values) throws Throwable {
     String takes = shapes.get(opcode)[0], gives = shapes.get(opcode)[1];
     Body body = new Body();
-    int at = 0;
-    for (char k : takes.toCharArray()) at = take(body, k, stack, at);
+    for (int i = 0; i < values.length; i++) push(body, takes.charAt(i), values[i]);
     body.op(opcode);
     try {
       if (gives.length() == 1) {
         body.op(172 + KINDS.indexOf(gives.charAt(0)));
         Object value = run(body, descriptor("", gives.charAt(0)), 12, 0);
-        if (value == null) return want.equals("leaves (0 ∷ [])") ? want : "leaves (0 ∷ [])";
-        boolean computed = opcode != 118 && opcode != 119;
-        return want.startsWith("leaves") && same(value, list(want), computed) ? want : "leaves " + show(words(value));
+        return opcode == 118 || opcode == 119 ? digits(value) : computed(value);
       }
       for (int i = gives.length() - 1; i >= 0; i--) body.op(60, 42, 16, i, 27, 79); // istore_1, aload_0, bipush i, iload_1, iastore
       int[] after = new int[gives.length()];
       run(body.op(177), "([I)V", 12, 2, (Object) after);
-      List<Long> got = new ArrayList<>();
-      for (int word : after) got.add(word & 0xFFFFFFFFL);
-      return "leaves " + show(got);
+      StringBuilder out = new StringBuilder();
+      for (int word : after) out.append(" ").append(digits(word));
+      return out.toString().strip();
     } catch (ArithmeticException e) {
-      return "Throw";
+      return "throw arithmetic";
     }
   }
 
-  /** Where a branch by 6 goes. */
-  static String branch(int opcode, List<Long> stack) throws Throwable {
+  /** What IINC of a local leaves there, plain or with WIDE. */
+  static String increment(boolean wide, String value, String constant) throws Throwable {
+    int c = Integer.parseInt(constant, 16);
     Body body = new Body();
-    int at = 0;
-    for (char k : shapes.get(opcode)[0].toCharArray()) at = take(body, k, stack, at);
+    push(body, 'I', value);
+    body.op(59); // istore_0
+    if (wide) body.op(196, 132, 0, 0, c >> 8, c & 255);
+    else body.op(132, 0, c);
+    return digits(run(body.op(26, 172), "()I", 12, 1));
+  }
+
+  /** Whether a branch is taken. */
+  static boolean taken(int opcode, String... values) throws Throwable {
+    Body body = new Body();
+    String takes = shapes.get(opcode)[0];
+    for (int i = 0; i < takes.length(); i++) push(body, takes.charAt(i), values[i]);
     body.op(opcode, 0, 5, 3, 172, 4, 172); // to the other ireturn
-    boolean taken = (Integer) run(body, "(Ljava/lang/Object;Ljava/lang/Object;)I", 4, 2, "one", "two") == 1;
-    return "goes " + (taken ? 6 : 3);
+    return (Integer) run(body, "(Ljava/lang/Object;Ljava/lang/Object;)I", 4, 2, "one", "two") == 1;
   }
 
-  static String method(int stack, int locals, List<Long> code, List<Long> tags, List<Long> pool, String want) throws Throwable {
+  /** How a method without arguments ends. The kind of what it returns is the one that is wanted. */
+  static String method(int stack, int locals, String code, List<Object> constants, String want) throws Throwable {
     Body body = new Body();
-    for (int i = 1; i < tags.size(); i++) {
-      long low = pool.get(i);
-      switch (tags.get(i).intValue()) {
-        case 3 -> body.constants.add((int) low);
-        case 4 -> body.constants.add(Float.intBitsToFloat((int) low));
-        case 5 -> body.constants.add(low + (pool.get(++i) << 32));
-        case 6 -> body.constants.add(Double.longBitsToDouble(low + (pool.get(++i) << 32)));
-        default -> throw new IllegalArgumentException("tag " + tags.get(i));
-      }
-    }
-    for (long b : code) body.op((int) b);
-    String name = want.replaceAll("End.Return \\(?|End\\.", "").replaceAll(" .*|\\)", "");
-    char kind = switch (name) {
-      case "Long" -> 'J';
-      case "Float" -> 'F';
-      case "Double" -> 'D';
-      case "Reference" -> 'A';
-      case "Void" -> 'V';
-      default -> 'I';
-    };
+    body.constants.addAll(constants);
+    for (int i = 0; i < code.length(); i += 2) body.op(Integer.parseInt(code.substring(i, i + 2), 16));
+    String name = want.startsWith("return") ? want.split(" ")[1] : "int";
+    char kind = name.equals("ref") ? 'A' : name.equals("void") ? 'V' : KIND.get(name);
     try {
       Object value = run(body, descriptor("", kind), stack, locals);
-      if (kind == 'V') return "End.Return Void";
-      long bits = value == null ? 0 : words(value).get(0) + (words(value).size() > 1 ? words(value).get(1) << 32 : 0);
-      return String.format("End.Return (%s 0x%s)", name, Long.toHexString(bits));
+      return "return " + name + (kind == 'V' ? "" : " " + digits(value));
     } catch (ArithmeticException e) {
-      return "End.Throw";
+      return "throw arithmetic";
     }
   }
 
@@ -214,12 +205,11 @@ public final class Judge {
     int length = lengths.getOrDefault(opcode, 1);
     boolean load = opcode >= 21 && opcode <= 45, store = opcode >= 54 && opcode <= 78;
     int local = load ? opcode <= 25 ? 0 : (opcode - 26) % 4 : opcode <= 58 ? 0 : (opcode - 59) % 4;
-    List<Long> zeros = List.of(0L, 0L, 0L, 0L, 0L, 0L);
     if (load) {
-      take(body, gives.charAt(0), zeros, 0);
+      push(body, gives.charAt(0), "0");
       body.op(54 + KINDS.indexOf(gives.charAt(0)), local);
     } else if (opcode == 132) body.op(3, 59);
-    for (char k : takes.toCharArray()) take(body, k, zeros, 0);
+    for (char k : takes.toCharArray()) push(body, k, "0");
     if (opcode == 170 || opcode == 171) { // a switch: padding, then the default; low and high, or no pairs; a table of one
       int at = body.size(), end = (at / 4 + 1) * 4 + (opcode == 170 ? 16 : 8);
       body.op(opcode);
@@ -258,20 +248,6 @@ public final class Judge {
 
   // ---- reading the files
 
-  static List<Long> list(String text) {
-    List<Long> out = new ArrayList<>();
-    Matcher m = Pattern.compile("\\b(0x[0-9a-fA-F]+|\\d+)\\b").matcher(text);
-    while (m.find()) out.add(Long.decode(m.group()));
-    return out;
-  }
-
-  static String show(List<Long> words) {
-    if (words.isEmpty()) return "[]";
-    StringBuilder out = new StringBuilder("(");
-    for (long w : words) out.append(w < 10 ? "" + w : "0x" + Long.toHexString(w)).append(" ∷ ");
-    return out + "[])";
-  }
-
   static String kinds(String text) {
     StringBuilder out = new StringBuilder();
     for (String word : text.split("[^a-z]+")) if (KIND.containsKey(word)) out.append(KIND.get(word));
@@ -292,49 +268,97 @@ public final class Judge {
     return out;
   }
 
-  static void tell(String name, String want, String got) {
+  static List<Object> constants(String[] given) {
+    List<Object> out = new ArrayList<>();
+    for (int i = 0; i < given.length; i += 2) {
+      long bits = Long.parseUnsignedLong(given[i + 1], 16);
+      out.add(switch (given[i]) {
+        case "int" -> (Object) (int) bits;
+        case "float" -> Float.intBitsToFloat((int) bits);
+        case "long" -> bits;
+        default -> Double.longBitsToDouble(bits);
+      });
+    }
+    return out;
+  }
+
+  /** Which of the branches with these opcodes are taken. */
+  static String branches(int[] opcodes, String[] names, String... values) throws Throwable {
+    StringBuilder out = new StringBuilder();
+    for (int i = 0; i < names.length; i++) {
+      if (taken(opcodes[i], values)) out.append(" ").append(names[i]);
+    }
+    asked += names.length - 1;
+    return out.toString().strip();
+  }
+
+  static final String[] ONE = {"ifeq", "ifne", "iflt", "ifge", "ifgt", "ifle"}, TWO = {"if_icmpeq", "if_icmpne", "if_icmplt", "if_icmpge", "if_icmpgt", "if_icmple"};
+  static final String[] REFERENCES = {"ifnull", "ifnonnull", "if_acmpeq", "if_acmpne"};
+
+  static void tell(String fact, String want, String got) {
     asked++;
     if (want.equals(got)) return;
     differ++;
-    System.out.println(name + ": " + want + ", and the JVM has " + got);
+    System.out.println(fact + " = " + want + ", and the JVM has " + got);
   }
 
-  static void fact(String line, String want) throws Throwable {
-    String group = "(\\[\\]|\\([^()]*\\))";
-    Matcher one = Pattern.compile("(on|if) (\\d+) " + group).matcher(line);
-    Matcher whole = Pattern.compile("method (\\d+) (\\d+) " + group + " " + group + " " + group).matcher(line);
-    if (one.matches()) {
-      int opcode = Integer.parseInt(one.group(2));
-      List<Long> stack = list(one.group(3));
-      tell(line, want, one.group(1).equals("on") ? on(opcode, stack, want) : branch(opcode, stack));
-    } else if (whole.matches()) {
-      int stack = Integer.parseInt(whole.group(1)), locals = Integer.parseInt(whole.group(2));
-      String got = method(stack, locals, list(whole.group(3)), list(whole.group(4)), list(whole.group(5)), want);
-      tell(line, want.replaceAll("(Int|Float|Reference) (\\d)\\)", "$1 0x$2)").replaceAll("(Long|Double) (\\d)\\)", "$1 0x$2)"), got);
+  /** A line of facts.txt, with the constants of its method. */
+  static String fact(String[] words, List<Object> pool, String want) throws Throwable {
+    String[] values = Arrays.copyOfRange(words, 1, words.length);
+    return switch (words[0]) {
+      case "tests" -> branches(new int[] {153, 154, 155, 156, 157, 158}, ONE, values);
+      case "tests_of_two" -> branches(new int[] {159, 160, 161, 162, 163, 164}, TWO, values);
+      case "tests_of_refs" -> branches(new int[] {198, 199, 165, 166}, REFERENCES, values);
+      case "method" -> method(Integer.parseInt(words[2]), Integer.parseInt(words[3]), words[4], pool, want);
+      default -> instruction(Integer.parseInt(words[0], 16), Arrays.copyOfRange(words, 2, words.length));
+    };
+  }
+
+  /** A vector of arithmetic: what its function gives. */
+  static String vector(int opcode, String... values) throws Throwable {
+    if (opcode == 132 || opcode == 196) return increment(opcode == 196, values[0], values[1]);
+    if (opcode >= 159 && opcode <= 164) return taken(opcode, values) ? "1" : "0";
+    return instruction(opcode, values);
+  }
+
+  interface Question {
+    String answer() throws Throwable;
+  }
+
+  static void ask(String fact, String want, Question question) throws Throwable {
+    try {
+      tell(fact, want, question.answer());
+    } catch (VerifyError | ClassFormatError e) {
+      tell(fact, want, e.getMessage().split("\n")[0]);
     }
   }
 
-  public static void main(String[] files) throws Throwable {
-    for (String file : files) readShapes(Files.readString(Path.of(file)));
+  public static void main(String[] none) throws Throwable {
+    readShapes(Files.readString(Path.of("crates/rules/proofs/Shapes.antt")));
     for (int op : shapes.keySet()) {
-      try {
+      ask("shape of " + op, "verified", () -> {
         shape(op);
-        asked++;
-      } catch (VerifyError e) {
-        tell("shape of " + op, "verified", e.getMessage().split("\n")[0]);
-      }
+        return "verified";
+      });
     }
-    for (String file : files) {
-      Matcher m = Pattern.compile("(?m)^\\s+(?:pub (\\S+) : )?((?:on|if|method) .*) (?:≡|equals) (.*?)(?: ∷)?$").matcher(Files.readString(Path.of(file)));
-      while (m.find()) {
-        try {
-          fact(m.group(2), m.group(3));
-        } catch (VerifyError | ClassFormatError e) {
-          tell(m.group(2), m.group(3), e.getMessage().split("\n")[0]);
-        }
+    List<Object> pool = List.of();
+    for (String line : Files.readAllLines(Path.of("tools/vectors/facts.txt"))) {
+      if (line.isBlank() || line.startsWith("#")) continue;
+      String[] sides = (line + " ").split("="), words = sides[0].strip().split(" +");
+      if (words[0].equals("constants")) {
+        pool = constants(Arrays.copyOfRange(words, 1, words.length));
+        continue;
       }
+      List<Object> constants = pool;
+      String want = sides[1].strip();
+      ask(sides[0].strip(), want, () -> fact(words, constants, want));
     }
-    System.out.println(asked + " facts, " + differ + " not as the JVM has them");
+    for (String line : Files.readAllLines(Path.of("crates/arithmetic_vectors/stdin"))) {
+      String[] words = line.split(" +");
+      String[] values = Arrays.copyOfRange(words, 2, words.length - 1);
+      ask(line, words[words.length - 1], () -> vector(Integer.parseInt(words[0], 16), values));
+    }
+    System.out.println(asked + " judged, " + differ + " differ");
     if (differ > 0) System.exit(1);
   }
 }

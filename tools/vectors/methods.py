@@ -21,14 +21,16 @@ A line is one sample, 403 bytes with its line feed, all numbers in upper-case he
             377-384  depth
             386-401  count
 
-Bytes and words past those that are lent are 0. Each sample says how its walk ends, which tracing.py finds again.
+Bytes and words past those that are lent are 0. Each sample says how its walk ends, which tracing.py finds again. The last ones are those facts of facts.txt that no
+sample before them has; HotSpot judges the same file (tools/jvm/Judge.java).
 """
 import collections
+import os
 from fractions import Fraction
 
 import arithmetic
 import command
-from listings import SHUFFLES, assemble
+from listings import OPCODES, SHUFFLES, assemble
 
 # Values as words, a long's low word first.
 
@@ -57,9 +59,9 @@ def joined(words):
     return sum(part << 32 * k for k, part in enumerate(words))
 
 
-# The samples: a name, how the walk ends, and what is lent.
+# The samples: a name, how the walk ends, what is lent, and for some the words that the walk leaves on the stack.
 
-Sample = collections.namedtuple('Sample', 'name end code kinds words slots state')
+Sample = collections.namedtuple('Sample', 'name end code kinds words slots state leaves', defaults=(None,))
 
 
 def junk(place):
@@ -767,11 +769,96 @@ def two_refusals():
     yield sample('refused_10_not_11', 'refused 10', 'nop; ldc 1', 2, pool=((INT, 5),))
 
 
-def samples():
+def other_refusals():
+    """Instructions that the groups above refuse only in others of their form."""
+    yield sample('wide_46', 'refused 4', 'bytes C4 2E', 6)
+    yield sample('no_room_for_lconst_0', 'refused 8', 'lconst_0; return', 2, stack=(1,))
+    yield sample('outside_lload_1', 'refused 9', 'lload_1; return', 2, (7, 8))
+    yield sample('falls_off_after_iadd', 'refused 11', 'iadd', 2, stack=(1, 2))
+
+
+def last_steps():
+    """Walks that end after all steps but one of the budget."""
+    yield sample('throw_after_59', 'throw arithmetic', 'iconst_1; iconst_0; ' + 'nop; ' * 57 + 'idiv', 2)
+    yield sample('refused_after_59', 'refused 4', 'nop; ' * 59 + 'bytes 2E', 0)
+
+
+# The facts of facts.txt.
+
+INT_TESTS = 'eq ne lt ge gt le'.split()
+CHAINS = {'tests': (TESTS, ['if' + test for test in INT_TESTS]), 'tests_of_two': (TESTS_OF_TWO, ['if_icmp' + test for test in INT_TESTS]),
+          'tests_of_refs': (TESTS_OF_REFS, ['ifnull', 'ifnonnull', 'if_acmpeq', 'if_acmpne'])}
+KINDS = {'int': INT, 'float': FLOAT, 'long': LONG, 'double': DOUBLE}
+
+
+def words_of(values):
+    """The words of values in hexadecimal."""
+    return [part for value in values for part in (two_words(int(value, 16)) if len(value) == 16 else [int(value, 16)])]
+
+
+def named(name, values):
+    """A name with values, without their leading zeros."""
+    return '_'.join([name, *(f'{int(value, 16):X}' for value in values)])
+
+
+def pool_of(kinds, values):
+    """The entries of a pool with these constants from index 1 on."""
+    entries = [(0, 0)]
+    for kind, value in zip(kinds, values):
+        low, *high = words_of([value])
+        entries += [(KINDS[kind], low), *((0, part) for part in high)]
+    return entries
+
+
+def instruction(opcode, name, *values, end):
+    """An instruction on a stack that holds nothing else."""
+    assert OPCODES[name] == int(opcode, 16), name
+    before = words_of(values)
+    if end == ['throw', 'arithmetic']:
+        return sample(named(name, values), 'throw arithmetic', f'{name}; return', len(before), stack=before)
+    after = words_of(end)
+    return sample(named(name, values), 'return void', f'{name}; return', max(len(before), len(after)), stack=before, leaves=after)
+
+
+def branches(chain_name, *values, taken):
+    """The branches of a chain; it returns the sum of those that are not taken."""
+    listing, names = CHAINS[chain_name]
+    assert set(taken) <= set(names), chain_name
+    untaken = sum(1 << k for k, name in enumerate(names) if name not in taken)
+    return sample(named(chain_name, values), f'return int {untaken:08X}', listing, len(values), (*words_of(values), 0))
+
+
+def facts():
+    """A sample for each fact."""
+    pool = ()
+    with open(os.path.join(os.path.dirname(__file__), 'facts.txt'), encoding='ascii') as file:
+        listed = [text for text in file if text.strip() and not text.startswith('#')]
+    for text in listed:
+        left, _, right = text.partition('=')
+        first, *given = left.split()
+        if first == 'constants':
+            pool = pool_of(given[::2], given[1::2])
+        elif first == 'method':
+            name, max_stack, max_locals, code = given
+            yield sample(name, right.strip(), f'bytes {code}', int(max_stack), [None] * int(max_locals), pool=pool)
+        elif first in CHAINS:
+            yield branches(first, *given, taken=right.split())
+        else:
+            yield instruction(first, *given, end=right.split())
+
+
+def by_hand():
     for group in (loops, switches, divisions, wides, constants, loads_and_stores, shuffles, comparisons, tests, returns, jumps, integers,
                   floats, conversions, refused_before_the_code, refused_opcodes, cut_codes, refused_switches, refused_pops,
-                  refused_pushes, refused_locals, refused_constants, refused_targets, two_refusals):
+                  refused_pushes, refused_locals, refused_constants, refused_targets, two_refusals, other_refusals, last_steps):
         yield from group()
+
+
+def samples():
+    """All samples. A fact that a sample by hand has, on the same method and words, has none of its own."""
+    chosen = list(by_hand())
+    yield from chosen
+    yield from (given for given in facts() if all(given[2:7] != other[2:7] for other in chosen))
 
 
 def filled(numbers, form, count):

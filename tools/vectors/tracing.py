@@ -25,7 +25,7 @@ A trace is these lines; words and code are in upper-case hexadecimal, other numb
     (an empty line)
 
 The samples are those of methods.py. The traces are worked out here from JVMS 6.5 and the questions of document 01, with the arithmetic of arithmetic.py. Each sample says
-how its walk ends; a walk that ends in another way is an error.
+how its walk ends, some of them what it leaves on the stack; a walk that ends in another way is an error.
 """
 import copy
 import struct
@@ -300,6 +300,7 @@ def trace(given):
     """The lines of a sample."""
     lines, end, m = walk(given)
     assert end == given.end, f'{given.name} ends with {end}'
+    assert given.leaves in (None, m.slots[m.max_locals:m.max_locals + m.depth]), f'{given.name} leaves {m.slots}'
     return [f'method {given.name}', listed('code', given.code, '02X'), listed('kinds', given.kinds, 'd'),
             listed('words', given.words, '08X'), *Machine(given).shown(), HEADER, *lines, end, *m.shown(),
             *run(given, BUDGET), *run(given, len(lines) // 2), '']

@@ -21,3 +21,4 @@ pub mod Replay
 -- Examples, which only the checker reads
 mod Examples
 mod Shapes
+mod Tried

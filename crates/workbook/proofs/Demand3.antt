@@ -301,3 +301,9 @@ module _ (l : Method) (slots log state bytes answers : List ℕ) where
   pub list-promised : (c : Called) → c ≡ pressesCall (coreMachine l) slots log state bytes answers
       → (c ≡ pressesCall (coreMachine l) slots log state bytes answers) × FromAnyLoadCall l slots log state bytes answers c
   list-promised c e = (e, from-any-load-call c e)
+
+-- its premise holds of what every accepted call of workbook_load left
+left-by-load : (sheet slots kinds words state answer : List ℕ) → ((i : ℕ) → u8 sheet i < 256) → loadCall sheet slots kinds words state answer .number ≡ 0
+    → let c = loadCall sheet slots kinds words state answer in LeftByLoad sheet (methodLeft sheet c) (c .slots) (c .state)
+left-by-load sheet slots kinds words state answer b a =
+    record { bytes = b; slots₀ = slots; kinds₀ = kinds; words₀ = words; state₀ = state; answer₀ = answer; accepted = a; same-method = refl; same-slots = refl; same-state = refl }
