@@ -26,14 +26,22 @@ fn run_method(code: &[u8], kinds: &[u8], words: &[u32], slots: &mut [u32], s: St
 // Loads a sheet, and runs its method.
 fn run_sheet(sheet: &[u8], slots: &mut [u32], kinds: &mut [u8], words: &mut [u32], bits: bool) {
     let loaded = load(sheet, slots, kinds, words);
-    match loaded {
+    let answer = loaded.answer;
+    match answer {
         Load::Refused(n) => {
             print(b"sheet");
             print_number(n as u64);
             print(b"\n");
         }
-        Load::Accepted { state, .. } => {
-            run_method(code_of(sheet, loaded), kinds, words, slots, state, bits);
+        Load::Accepted => {
+            run_method(
+                code_of(sheet, loaded),
+                kinds,
+                words,
+                slots,
+                loaded.state,
+                bits,
+            );
         }
     }
 }

@@ -92,9 +92,10 @@ pub(crate) fn run_beside(
         return;
     }
     let loaded = load(sheet, others, kinds, words);
-    let Load::Accepted { state, .. } = loaded else {
+    let answer = loaded.answer;
+    let Load::Accepted = answer else {
         return;
     };
     let code = code_of(sheet, loaded);
-    run_loaded(code, kinds, words, others, state, slots, s);
+    run_loaded(code, kinds, words, others, loaded.state, slots, s);
 }

@@ -14,6 +14,7 @@ use printing::print_state;
 use printing::print_sum_of_words;
 use printing::print_words;
 use rules::Load;
+use rules::Loaded;
 use rules::State;
 use sheet::code_of;
 use sheet::load;
@@ -40,8 +41,8 @@ fn print_replay(number: u32, presses: usize, answers: &[u32]) {
 }
 
 // Prints the refusal of a sheet.
-fn print_refusal(loaded: Load) {
-    if let Load::Refused(n) = loaded {
+fn print_refusal(answer: Load) {
+    if let Load::Refused(n) = answer {
         print(b"sheet");
         print_number(n as u64);
         print(b"\n");
@@ -78,7 +79,7 @@ fn counted(number: u32, bytes: &[u8], answers: &[u32]) -> Tally {
 // Makes the presses from the head's offset, depth and count on, and runs beside them.
 fn press_from(
     sheet: &[u8],
-    loaded: Load,
+    loaded: Loaded,
     kinds: &mut [u8],
     words: &mut [u32],
     slots: &mut [u32],
@@ -88,11 +89,12 @@ fn press_from(
     answers: &mut [u32],
     head: Head,
 ) -> Tally {
-    let Load::Accepted { state, .. } = loaded else {
-        print_refusal(loaded);
+    let answer = loaded.answer;
+    let Load::Accepted = answer else {
+        print_refusal(answer);
         return nothing();
     };
-    let begin = moved(state, head.pc, head.depth, head.count);
+    let begin = moved(loaded.state, head.pc, head.depth, head.count);
     let code = code_of(sheet, loaded);
     let replay = press_loaded(code, kinds, words, slots, log, begin, bytes, answers);
     let left = replay.state;

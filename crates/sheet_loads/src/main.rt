@@ -17,12 +17,12 @@ const MOST: u64 = 100_000;
 
 // Loads a sheet, and prints the answer.
 fn load_sheet(sheet: &[u8], slots: &mut [u32], kinds: &mut [u8], words: &mut [u32]) {
-    let load = sheet::load(sheet, slots, kinds, words);
-    print_load(load);
+    let loaded = sheet::load(sheet, slots, kinds, words);
+    print_load(loaded);
     print_sum_of_bytes(b" kinds", kinds);
     print_sum_of_words(b" words", words);
     print_sum_of_words(b" slots", slots);
-    let code = sheet::code_of(sheet, load);
+    let code = sheet::code_of(sheet, loaded);
     print_sum_of_bytes(b" code", code);
     print(b"\n");
 }

@@ -38,14 +38,15 @@ fn walk(code: &[u8], kinds: &[u8], words: &[u32], slots: &mut [u32], s: State) {
 // Loads a sheet, and walks its method from what the load left.
 fn walk_sheet(sheet: &[u8], slots: &mut [u32], kinds: &mut [u8], words: &mut [u32]) {
     let loaded = load(sheet, slots, kinds, words);
-    match loaded {
+    let answer = loaded.answer;
+    match answer {
         Load::Refused(n) => {
             print(b"sheet");
             print_number(n as u64);
             print(b"\n");
         }
-        Load::Accepted { state, .. } => {
-            walk(code_of(sheet, loaded), kinds, words, slots, state);
+        Load::Accepted => {
+            walk(code_of(sheet, loaded), kinds, words, slots, loaded.state);
         }
     }
 }

@@ -15,7 +15,7 @@ least-requires-3 : tie.Need-least-requires-3
 least-requires-3 c κs = search needs
 
 slice-aggregate-trace-lent : tie.Need-slice-aggregate-trace-lent
-slice-aggregate-trace-method c = sym (length-take-le (c .before .before .before .before .before .least .result) (c .before .before .before .before .before .before .before .before .before .args .code .now) (c .before .before .before .before .before .least .ensures))
+slice-aggregate-trace-lent c = sym (length-take-le (c .before .before .before .before .before .least .result) (c .before .before .before .before .before .before .before .before .before .args .code .now) (c .before .before .before .before .before .least .ensures))
 
 slice-aggregate-trace-lent-2 : tie.Need-slice-aggregate-trace-lent-2
 slice-aggregate-trace-lent-2 c = sym (length-take-le (c .before .before .before .before .before .least2 .result) (c .before .before .before .before .before .before .before .before .before .before .args .kinds .now) (c .before .before .before .before .before .least2 .ensures))
