@@ -49,14 +49,14 @@ pub record Decodes (code : List ℕ) (pc entry size index constant : ℕ) : Type
   pub entered : entry ≡ entryAt i
   pub sized : size ≡ i .size
   pub indexed : index ≡ i .operand .index
-  pub worded : constant ≡ low 32 (i .operand .constant)
+  pub as-word : constant ≡ low 32 (i .operand .constant)
 
 pub decodes : (code : List ℕ) (pc entry size index constant : ℕ) → Decoded.Instruction entry size index constant ≡ decoded (fetched code pc) → Decodes code pc entry size index constant
 unfolding decoded
 decodes code pc entry size index constant e = go (fetched code pc) refl e
   where
     go : (x : Check Instruction) → fetched code pc ≡ x → Decoded.Instruction entry size index constant ≡ decoded x → Decodes code pc entry size index constant
-    go (passed i) f h = record { i = i; at = f; entered = cc; sized = cc; indexed = cc; worded = cc }
+    go (passed i) f h = record { i = i; at = f; entered = cc; sized = cc; indexed = cc; as-word = cc }
     go (refused n) f h = let z : _≡_ {A = ℕ} 0 1 = cc in absurd (omega arith)
 
 not-decoded : (x : Check Instruction) (n : ℕ) → Decoded.Refused n ≡ decoded x → x ≡ refused n
@@ -80,7 +80,7 @@ module _ (l : Method) (s : State) (slots : List ℕ) (framed : frameCheck l s (l
     pub by-located : (first depth : ℕ) → Placed.At first depth ≡ placeOf entry index s
         → locatedDecision l slots (s .pc) (locatedOf entry index constant (s .pc + size) first depth) ≡ decideOf l s slots
     by-located first depth e =
-        rw (d .entered, d .sized, d .indexed, d .worded) (located-decides l s slots framed (d .i) (d .at) first depth (says (Placed.At first depth) e))
+        rw (d .entered, d .sized, d .indexed, d .as-word) (located-decides l s slots framed (d .i) (d .at) first depth (says (Placed.At first depth) e))
 
     pub next-small : s .pc + size ≤ 65535
     next-small =

@@ -1,5 +1,5 @@
-// Ordinary steps, one after the other, and the decision of the next. A step, a press of forward and a run all come through here, so that the
-// decision of a step is compiled into one loop.
+// Ordinary steps, one after the other, and the decision of the next: the loop of `run_until_exception_or_return` (interpreter.rs). A step, a press of
+// forward and a run all come through here, so that the decision of a step is compiled into one loop.
 use crate::deciding::decide_framed;
 use crate::stepping::moved;
 use frame::check_frame;
