@@ -5,14 +5,14 @@ use mathlib.Core.Bool.{Bool, true, false, _||_, cond}
 use mathlib.Core.List.{List}
 use native.Mathlib.Omega.{arith}
 use lib.Dec.{ltb, leb, eqb}
-use lib.ListN.{length, set}
-use borrow.Author.Tests.{ltb-true, leb-true, le-leb, lt-leb, le-ltb, lt-ltb, eqb-true, eq-eqb, ne-eqb}
+use lib.ListN.{length}
+use borrow.Author.Tests.{ltb-true, leb-true, le-leb, lt-leb, le-ltb, lt-ltb, eqb-true}
 use Rattle.rules.specs.declared.Mark.{Mark}
 use Rattle.rules.specs.declared.Mark.the-variants.{LM, CD, KI, AR}
 use Rattle.rules.specs.declared.Reading.{Reading}
 use Rattle.rules.specs.Check.{Check, passed, refused, _else_, _>>=_, _>>_}
-use Rattle.rules.specs.Fetch.{u8, u16, u32}
-use Rattle.rules.specs.Sheet.{bodyLength, bodyAt, recordEnd, knownMark, follows, rightLength, unread, withRecord, poolIndex, poolTag, tagSuits, lastIndex, argumentCount, contentsCheck, markedCheck, recordCheck, endCheck, readFrom, sheetCheck, Pool, withWords, withValue, poolFrom, loadedPool, loadedSlots, acceptedLoad, refusedLoad, memoryCheck, loadOf}
+use Rattle.rules.specs.Fetch.{u8, u16}
+use Rattle.rules.specs.Sheet.{bodyLength, bodyAt, recordEnd, knownMark, follows, rightLength, unread, withRecord, poolIndex, poolTag, tagSuits, lastIndex, argumentCount, contentsCheck, markedCheck, recordCheck, endCheck, readFrom, sheetCheck, Pool, withValue, poolFrom, loadedPool, loadedSlots, acceptedLoad, refusedLoad, memoryCheck, loadOf}
 use Rattle.rules.proofs.Check.{last-passed, Holds, asked, after, bound, held, either, bind-same, Any, Numbered, last-numbered, after-numbered, bound-numbered, asked-numbered, either-numbered, refused-numbered}
 
 -- ---- a record, question by question
@@ -136,15 +136,6 @@ module _ (sheet : List ℕ) where
     bad-record k e = rw e at one-record
 
 -- ---- constant by constant
-
-module _ (sheet : List ℕ) (at : ℕ) (words : List ℕ) where
-  pub wide-words : bodyLength sheet at ≡ 11 → set (set words (poolIndex sheet at) (u32 sheet (bodyAt at + 7))) (poolIndex sheet at + 1) (u32 sheet (bodyAt at + 3)) ≡ withWords sheet at words
-  unfolding withWords
-  wide-words e = rw (eq-eqb (bodyLength sheet at) 11 e)
-
-  pub narrow-words : (bodyLength sheet at ≡ 11 → ⊥) → set words (poolIndex sheet at) (u32 sheet (bodyAt at + 3)) ≡ withWords sheet at words
-  unfolding withWords
-  narrow-words e = rw (ne-eqb (bodyLength sheet at) 11 e)
 
 module _ (sheet : List ℕ) (end : ℕ) where
   pub pool-end : (n at : ℕ) (p : Pool) → end ≤ at → poolFrom n sheet at end p ≡ p

@@ -1,7 +1,7 @@
 -- `enter_words` meets its contract. Assumes nothing.
 use mathlib.Core.Path.{sym, _∙_}
 use denote.Ref.{now}
-use Rattle.rules.proofs.Sheet.{wide-words, narrow-words}
+use Rattle.sheet.proofs.Constants.{wide-words, narrow-words}
 use borrow.Author.Needs.{needs}
 use Rattle.sheet.proofs.filling.enter_words.Statement.{statement}
 use Rattle.sheet.proofs.filling.enter_words.Tie as tie
