@@ -23,13 +23,13 @@ use Rattle.rules.proofs.Sheet.{Within, sheet-within, code-at-12, sheet-
 
 -- ---- lengths
 
+either-long : (t : Bool) (x y : List ℕ) (n : ℕ) → length x ≡ n → length y ≡ n → length (cond t x y) ≡ n
+either-long true x y n h k = h
+either-long false x y n h k = k
+
 pub length-words : (sheet : List ℕ) (at : ℕ) (words : List ℕ) → length (withWords sheet at words) ≡ length words
 unfolding withWords
-length-words sheet at words = go (isWide sheet at)
-  where
-    go : (t : Bool) → length (cond t (set (set words (poolIndex sheet at) (u32 sheet (bodyAt at + 7))) (poolIndex sheet at + 1) (u32 sheet (bodyAt at + 3))) (set words (poolIndex sheet at) (u32 sheet (bodyAt at + 3)))) ≡ length words
-    go true = simp length-set
-    go false = simp length-set
+length-words sheet at words = either-long (isWide sheet at) _ _ (length words) (simp length-set) (simp length-set)
 
 pub pool-kinds : (n : ℕ) (sheet : List ℕ) (at end : ℕ) (p : Pool) → length (poolFrom n sheet at end p .kinds) ≡ length (p .kinds)
 unfolding poolFrom

@@ -18,7 +18,7 @@ use Rattle.rules.specs.Check.{passed}
 use Rattle.rules.specs.Fetch.{u8, u32}
 use Rattle.rules.specs.Questions.{Method, method}
 use Rattle.rules.specs.Step.{Decider, Machine}
-use Rattle.rules.specs.Sheet.{recordEnd, bodyAt, poolIndex, poolTag, isWide, sheetCheck, memoryCheck, Pool, withKind, withWords, withValue, poolFrom, poolStart, poolEnd, loadedPool, argumentsFrom, loadedFrame, loadedSlots, loadedState, acceptedLoad, AfterLoad, loadOf, codeOf}
+use Rattle.rules.specs.Sheet.{recordEnd, poolIndex, poolTag, isWide, sheetCheck, memoryCheck, Pool, withKind, withWords, withValue, poolFrom, poolStart, poolEnd, loadedPool, argumentsFrom, loadedFrame, loadedSlots, loadedState, acceptedLoad, AfterLoad, loadOf, codeOf}
 use Rattle.rules.specs.PlainWalk.{Stage, stageOf, PlainWalk, Press}
 use Rattle.rules.specs.Walk.{Walked, walkOf, Demand3}
 use Rattle.rules.specs.FromSheet.{Lengths, placesFrom, placesBy, kindBy, wordBy, throughRecords, inPool, sheetMethod, argumentOrZero, stage0, plainWalkBy, readingOf, plainWalkOf}
@@ -54,16 +54,17 @@ set-at l k v i h = go (eqb k i) refl
     go true e = let q = eqb-true k i e in rw (← q) (getD-set-same l k v 0 (omega arith))
     go false e = getD-set-other l k i v 0 (λ q. eqb-false k i e (sym q))
 
+either-at : (t : Bool) (x y : List ℕ) (i a b : ℕ) → getD x i 0 ≡ a → getD y i 0 ≡ b → getD (cond t x y) i 0 ≡ cond t a b
+either-at true x y i a b h k = h
+either-at false x y i a b h k = k
+
+-- of two writes the later counts
+set-twice : (l : List ℕ) (k v j w i : ℕ) → i < length l → getD (set (set l k v) j w) i 0 ≡ cond (eqb j i) w (cond (eqb k i) v (getD l i 0))
+set-twice l k v j w i h = set-at (set l k v) j w i (omega (arith, length-set l k v)) ∙ ap (cond (eqb j i) w) (set-at l k v i h)
+
 word-at : (sheet : List ℕ) (at : ℕ) (words : List ℕ) (i : ℕ) → i < length words → getD (withWords sheet at words) i 0 ≡ wordBy sheet at i (getD words i 0)
 unfolding withWords
-word-at sheet at words i h = go (isWide sheet at)
-  where
-    go : (b : Bool) → getD (cond b (set (set words (poolIndex sheet at) (u32 sheet (bodyAt at + 7))) (poolIndex sheet at + 1) (u32 sheet (bodyAt at + 3))) (set words (poolIndex sheet at) (u32 sheet (bodyAt at + 3)))) i 0
-        ≡ cond b (cond (eqb (poolIndex sheet at + 1) i) (u32 sheet (bodyAt at + 3)) (cond (eqb (poolIndex sheet at) i) (u32 sheet (bodyAt at + 7)) (getD words i 0))) (cond (eqb (poolIndex sheet at) i) (u32 sheet (bodyAt at + 3)) (getD words i 0))
-    go true =
-        set-at (set words (poolIndex sheet at) (u32 sheet (bodyAt at + 7))) (poolIndex sheet at + 1) (u32 sheet (bodyAt at + 3)) i (omega (arith, length-set words (poolIndex sheet at) (u32 sheet (bodyAt at + 7))))
-        ∙ ap (λ (d : ℕ). cond (eqb (poolIndex sheet at + 1) i) (u32 sheet (bodyAt at + 3)) d) (set-at words (poolIndex sheet at) (u32 sheet (bodyAt at + 7)) i h)
-    go false = set-at words (poolIndex sheet at) (u32 sheet (bodyAt at + 3)) i h
+word-at sheet at words i h = either-at (isWide sheet at) _ _ i _ _ (set-twice words _ _ _ _ i h) (set-at words _ _ i h)
 
 module _ (sheet : List ℕ) (end : ℕ) where
   kinds-through : (n at : ℕ) (p : Pool) (i : ℕ) → i < length (p .kinds) → getD (poolFrom n sheet at end p .kinds) i 0 ≡ throughRecords kindBy n sheet at end i (getD (p .kinds) i 0)
