@@ -30,6 +30,9 @@
 extern "C" {
 #endif
 
+/* The version that this header describes: what workbook_version gives. */
+#define WORKBOOK_VERSION 0
+
 /* Words that must be lent. State words past the sixth and answer words past
    the fourth are never written. */
 #define WORKBOOK_STATE_WORDS 6
@@ -97,6 +100,13 @@ enum workbook_number {
     WORKBOOK_THROW_ARITHMETIC = 110, /* an ArithmeticException that nothing catches */
     WORKBOOK_STOPPED = 120           /* run: the budget is used up */
 };
+
+/*
+ * The number of the last request that has landed (docs/changes), 0 before the
+ * first. A host compares it with WORKBOOK_VERSION before its first call: parts,
+ * words and numbers are those of one version.
+ */
+uint32_t workbook_version(void);
 
 /*
  * Loads a sheet. Accepted: 0; kinds and words are written over their length,

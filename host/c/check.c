@@ -675,6 +675,7 @@ static void check_presses(void) {
 }
 
 int main(void) {
+    EXPECT(workbook_version(), WORKBOOK_VERSION);
     for (extra = 0; extra <= 2; extra += 2) {
         check_load();
         check_step();

@@ -2,7 +2,7 @@
 //! types and types become words.
 
 use crate::answers::{answer, end, joined, refusal};
-use crate::{ffi, Answer, Ran, Refusal};
+use crate::{ffi, version, Answer, Ran, Refusal};
 use std::ops::Range;
 
 /// Where a walk stands, apart from its slots.
@@ -52,6 +52,7 @@ impl State {
 
     /// Lends the state's words to a call, and takes what it left in them.
     fn lend(&mut self, call: impl FnOnce(&mut [u32]) -> u32) -> u32 {
+        version::check();
         let mut words = self.to_words();
         let number = call(&mut words);
         *self = State::from_words(words);
@@ -96,6 +97,7 @@ pub fn load(
     kinds: &mut [u8],
     words: &mut [u32],
 ) -> Result<Loaded, Refusal> {
+    version::check();
     let (mut state, mut place) = ([0; 6], [0; 4]);
     match ffi::load(sheet, slots, kinds, words, &mut state, &mut place) {
         0 => {

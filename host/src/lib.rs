@@ -33,6 +33,7 @@ mod answers;
 mod calls;
 pub mod mnemonics;
 mod refusal;
+mod version;
 mod walk;
 
 /// The exported functions over slices of any lengths. Public for the tests of the boundary, which
@@ -44,4 +45,5 @@ pub mod ffi;
 pub use answers::{Answer, End, Ran, Value};
 pub use calls::{back, forward, load, presses, run, step, Loaded, Parts, Press, State};
 pub use refusal::Refusal;
+pub use version::VERSION;
 pub use walk::{Reached, Walk};
