@@ -116,6 +116,7 @@ extern "C" {
 }
 
 /// `workbook_version`.
+#[must_use]
 pub fn version() -> u32 {
     // SAFETY: the function is lent nothing, and gives a number.
     unsafe { workbook_version() }
