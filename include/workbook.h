@@ -61,8 +61,8 @@ enum workbook_number {
        presses: all made */
     WORKBOOK_OK = 0,
 
-    /* 1 to 99 is a refusal; these are the numbers of document 01, each with
-       what was asked. A step, a press or a run: */
+    /* 1 to 99 is a refusal (docs/RULES.md, 'Questions and refusals'), each
+       with what was asked. A step, a press or a run: */
     WORKBOOK_REFUSED_LENT = 1,      /* kinds, words, slots and sizes; state and answer words */
     WORKBOOK_REFUSED_PC = 2,        /* code of 1 to 65,535 bytes, pc inside */
     WORKBOOK_REFUSED_DEPTH = 3,     /* depth at most max_stack */

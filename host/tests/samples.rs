@@ -15,7 +15,7 @@ const SLOTS: usize = 8_192;
 const STEPS: usize = 1_600;
 const SHEET: usize = 65_536;
 
-/// The printed walk of document 01, with the steps made by a function.
+/// The printed walk (docs/RULES.md), with the steps made by a function.
 fn printed(sheet: &[u8], mut press: impl FnMut(Parts, &mut [u32], &mut State) -> Answer) -> String {
     let sheet = &sheet[..sheet.len().min(SHEET)];
     let (mut slots, mut kinds, mut words) = (vec![0; SLOTS], vec![0; POOL], vec![0; POOL]);
