@@ -30,6 +30,9 @@
 extern "C" {
 #endif
 
+/* The version that this header describes: what workbook_version gives. */
+#define WORKBOOK_VERSION 0
+
 /* Words that must be lent. State words past the sixth and answer words past
    the fourth are never written. */
 #define WORKBOOK_STATE_WORDS 6
@@ -58,8 +61,8 @@ enum workbook_number {
        presses: all made */
     WORKBOOK_OK = 0,
 
-    /* 1 to 99 is a refusal; these are the numbers of document 01, each with
-       what was asked. A step, a press or a run: */
+    /* 1 to 99 is a refusal (docs/RULES.md, 'Questions and refusals'), each
+       with what was asked. A step, a press or a run: */
     WORKBOOK_REFUSED_LENT = 1,      /* kinds, words, slots and sizes; state and answer words */
     WORKBOOK_REFUSED_PC = 2,        /* code of 1 to 65,535 bytes, pc inside */
     WORKBOOK_REFUSED_DEPTH = 3,     /* depth at most max_stack */
@@ -97,6 +100,13 @@ enum workbook_number {
     WORKBOOK_THROW_ARITHMETIC = 110, /* an ArithmeticException that nothing catches */
     WORKBOOK_STOPPED = 120           /* run: the budget is used up */
 };
+
+/*
+ * The number of the last request that has landed (docs/changes), 0 before the
+ * first. A host compares it with WORKBOOK_VERSION before its first call: parts,
+ * words and numbers are those of one version.
+ */
+uint32_t workbook_version(void);
 
 /*
  * Loads a sheet. Accepted: 0; kinds and words are written over their length,

@@ -148,7 +148,7 @@ static void want_press(size_t n, uint32_t number, uint32_t low, uint32_t high) {
     WANT(answers)[n * WORKBOOK_PRESS_WORDS + 2] = high;
 }
 
-/* Document 01's printed sheet: ICONST_3, ICONST_4, IADD, IRETURN. */
+/* The sheet of the printed walk (docs/RULES.md): ICONST_3, ICONST_4, IADD, IRETURN. */
 static const uint8_t printed[] = {0x4C, 0x4D, 0x00, 0x04, 0x00, 0x02, 0x00, 0x00, 0x43, 0x44,
                                   0x00, 0x04, 0x06, 0x07, 0x60, 0xAC, 0x41, 0x52, 0x00, 0x00};
 
@@ -675,6 +675,7 @@ static void check_presses(void) {
 }
 
 int main(void) {
+    EXPECT(workbook_version(), WORKBOOK_VERSION);
     for (extra = 0; extra <= 2; extra += 2) {
         check_load();
         check_step();

@@ -4,6 +4,16 @@ use crate::Refusal;
 use std::fmt;
 
 /// A returned value. A float and a double are kept as their bits, because a NaN's bits count too.
+/// The kinds are those of the Java virtual machine, so that a `match` can name them all.
+///
+/// ```
+/// use workbook_host::Value;
+///
+/// let half = Value::Float(0x3F00_0000);
+/// assert_eq!(half.as_f64(), Some(0.5));
+/// assert_eq!(half.to_string(), "float 3F000000 (0.5)");
+/// assert_eq!(Value::Int(-1).to_string(), "int FFFFFFFF (-1)");
+/// ```
 #[derive(Clone, Copy, Debug, PartialEq, Eq, Hash)]
 pub enum Value {
     /// An int.
@@ -23,6 +33,7 @@ pub enum Value {
 impl Value {
     /// The number of a float or a double; a float's number is the same as a double. Nothing for
     /// other values.
+    #[must_use]
     pub fn as_f64(self) -> Option<f64> {
         match self {
             Value::Float(bits) => Some(f64::from(f32::from_bits(bits))),
@@ -48,7 +59,24 @@ impl fmt::Display for Value {
 }
 
 /// The answer to a step or a press.
+///
+/// ```
+/// use workbook_host::{Answer, Refusal, Walk};
+///
+/// // ICONST_1, ICONST_0, IDIV.
+/// let sheet = b"LM\x00\x04\x00\x02\x00\x00CD\x00\x03\x04\x03\x6CAR\x00\x00";
+/// let mut walk = Walk::open(sheet.to_vec())?;
+/// assert_eq!(walk.back(), Answer::Refused(Refusal::START));
+/// assert_eq!(walk.forward(), Answer::Granted);
+/// assert_eq!(walk.forward(), Answer::Granted);
+/// // An outcome changes nothing, so it comes again.
+/// assert_eq!(walk.forward(), Answer::Throw);
+/// assert_eq!(walk.forward(), Answer::Throw);
+/// # Ok::<(), Refusal>(())
+/// ```
 #[derive(Clone, Copy, Debug, PartialEq, Eq, Hash)]
+#[must_use = "a press may be refused, and then nothing has changed"]
+#[non_exhaustive]
 pub enum Answer {
     /// The step or the press was made.
     Granted,
@@ -72,7 +100,20 @@ impl fmt::Display for Answer {
 }
 
 /// Why a run ended.
+///
+/// ```
+/// use workbook_host::{End, Value, Walk};
+///
+/// // ICONST_3, ICONST_4, IADD, IRETURN.
+/// let sheet = b"LM\x00\x04\x00\x02\x00\x00CD\x00\x04\x06\x07\x60\xACAR\x00\x00";
+/// let walk = Walk::open(sheet.to_vec())?;
+/// assert_eq!(walk.run(2).ran.end, End::Stopped);
+/// assert_eq!(walk.run(100).ran.end, End::Return(Value::Int(7)));
+/// # Ok::<(), workbook_host::Refusal>(())
+/// ```
 #[derive(Clone, Copy, Debug, PartialEq, Eq, Hash)]
+#[must_use = "a run may end in a refusal"]
+#[non_exhaustive]
 pub enum End {
     /// The budget is used up.
     Stopped,
@@ -96,7 +137,21 @@ impl fmt::Display for End {
 }
 
 /// What a run reports.
+///
+/// ```
+/// use workbook_host::{load, run, End, Parts, Ran};
+///
+/// // NOP, GOTO to the NOP: a method that does not end.
+/// let sheet = b"LM\x00\x04\x00\x00\x00\x00CD\x00\x04\x00\xA7\xFF\xFFAR\x00\x00";
+/// let mut loaded = load(sheet, &mut [], &mut [], &mut [])?;
+/// let parts = Parts { code: &sheet[loaded.code], kinds: &[], words: &[] };
+/// let Ran { end, steps, .. } = run(parts, &mut [], &mut loaded.state, 1_001);
+/// assert_eq!((end, steps, loaded.state.pc), (End::Stopped, 1_001, 1));
+/// # Ok::<(), workbook_host::Refusal>(())
+/// ```
 #[derive(Clone, Copy, Debug, PartialEq, Eq, Hash)]
+#[must_use = "a run may end in a refusal"]
+#[non_exhaustive]
 pub struct Ran {
     /// Why it ended.
     pub end: End,

@@ -2,10 +2,24 @@
 //! types and types become words.
 
 use crate::answers::{answer, end, joined, refusal};
-use crate::{ffi, Answer, Ran, Refusal};
+use crate::{ffi, version, Answer, Ran, Refusal};
 use std::ops::Range;
 
+/// Words of a log entry, which one step takes.
+pub const LOG_WORDS: usize = 10;
+
 /// Where a walk stands, apart from its slots.
+///
+/// ```
+/// use workbook_host::{State, Walk};
+///
+/// // max_stack 2, max_locals 1; ICONST_3, ISTORE_0, RETURN.
+/// let sheet = b"LM\x00\x04\x00\x02\x00\x01CD\x00\x03\x06\x3B\xB1AR\x00\x00";
+/// let state = Walk::open(sheet.to_vec())?.state();
+/// assert_eq!(state, State { max_stack: 2, max_locals: 1, pc: 0, depth: 0, count: 0 });
+/// assert_eq!(state.frame(), 3);
+/// # Ok::<(), workbook_host::Refusal>(())
+/// ```
 #[derive(Clone, Copy, Debug, PartialEq, Eq, Hash)]
 pub struct State {
     /// How many places the operand stack may have.
@@ -22,6 +36,7 @@ pub struct State {
 
 impl State {
     /// How many slots the frame has: the locals, then the places of the operand stack.
+    #[must_use]
     pub fn frame(&self) -> usize {
         usize::from(self.max_locals) + usize::from(self.max_stack)
     }
@@ -52,6 +67,7 @@ impl State {
 
     /// Lends the state's words to a call, and takes what it left in them.
     fn lend(&mut self, call: impl FnOnce(&mut [u32]) -> u32) -> u32 {
+        version::check();
         let mut words = self.to_words();
         let number = call(&mut words);
         *self = State::from_words(words);
@@ -61,6 +77,19 @@ impl State {
 
 /// What a step reads and never writes: the code and the constant pool. Any slices will do; what
 /// does not fit is refused.
+///
+/// ```
+/// use workbook_host::{load, step, Answer, Parts};
+///
+/// // ICONST_3, ICONST_4, IADD, IRETURN.
+/// let sheet = b"LM\x00\x04\x00\x02\x00\x00CD\x00\x04\x06\x07\x60\xACAR\x00\x00";
+/// let (mut slots, mut kinds, mut words) = ([0; 2], [], []);
+/// let mut loaded = load(sheet, &mut slots, &mut kinds, &mut words)?;
+/// let parts = Parts { code: &sheet[loaded.code], kinds: &kinds, words: &words };
+/// assert_eq!(step(parts, &mut slots, &mut loaded.state), Answer::Granted);
+/// assert_eq!((loaded.state.pc, loaded.state.depth, slots), (1, 1, [3, 0]));
+/// # Ok::<(), workbook_host::Refusal>(())
+/// ```
 #[derive(Clone, Copy, Debug)]
 pub struct Parts<'a> {
     /// The part of the sheet that the load handed back.
@@ -72,7 +101,22 @@ pub struct Parts<'a> {
 }
 
 /// What an accepted load gives.
+///
+/// ```
+/// use workbook_host::{load, Refusal};
+///
+/// // max_stack 0, max_locals 1; RETURN; one argument.
+/// let sheet = b"LM\x00\x04\x00\x00\x00\x01CD\x00\x01\xB1AR\x00\x04\x00\x00\x00\x05";
+/// let mut slots = [9; 2];
+/// let loaded = load(sheet, &mut slots, &mut [], &mut [])?;
+/// assert_eq!(sheet[loaded.code], [0xB1]);
+/// // The argument; what lies beyond the frame is left.
+/// assert_eq!(slots, [5, 9]);
+/// assert_eq!(load(sheet, &mut [], &mut [], &mut []), Err(Refusal::SHEET_MEMORY));
+/// # Ok::<(), Refusal>(())
+/// ```
 #[derive(Clone, Debug, PartialEq, Eq)]
+#[non_exhaustive]
 pub struct Loaded {
     /// The state at the start of the walk.
     pub state: State,
@@ -81,6 +125,20 @@ pub struct Loaded {
 }
 
 /// A press of one of the two buttons.
+///
+/// ```
+/// use workbook_host::{load, presses, Answer, Parts, Press, Refusal, LOG_WORDS};
+///
+/// // NOP, RETURN, and a log of one entry.
+/// let sheet = b"LM\x00\x04\x00\x00\x00\x00CD\x00\x02\x00\xB1AR\x00\x00";
+/// let mut loaded = load(sheet, &mut [], &mut [], &mut [])?;
+/// let parts = Parts { code: &sheet[loaded.code], kinds: &[], words: &[] };
+/// let mut log = [0; LOG_WORDS];
+/// let list = [Press::Back, Press::Forward, Press::Back];
+/// let answers = presses(parts, &mut [], &mut log, &mut loaded.state, &list);
+/// assert_eq!(answers, [Answer::Refused(Refusal::START), Answer::Granted, Answer::Granted]);
+/// # Ok::<(), Refusal>(())
+/// ```
 #[derive(Clone, Copy, Debug, PartialEq, Eq, Hash)]
 pub enum Press {
     /// One step further, with an entry in the log.
@@ -89,13 +147,18 @@ pub enum Press {
     Back,
 }
 
-/// Loads a sheet into lent memory. A refused load writes nothing.
+/// Loads a sheet into lent memory.
+///
+/// # Errors
+///
+/// The refusal, from 21 to 27. A refused load writes nothing.
 pub fn load(
     sheet: &[u8],
     slots: &mut [u32],
     kinds: &mut [u8],
     words: &mut [u32],
 ) -> Result<Loaded, Refusal> {
+    version::check();
     let (mut state, mut place) = ([0; 6], [0; 4]);
     match ffi::load(sheet, slots, kinds, words, &mut state, &mut place) {
         0 => {
@@ -153,6 +216,7 @@ pub fn run(parts: Parts, slots: &mut [u32], state: &mut State, budget: u64) -> R
 
 /// Makes a list of presses, one after the other, in one call. Each press has its own answer, and
 /// the list goes on after a refused one.
+#[must_use = "a press of the list may be refused"]
 pub fn presses(
     parts: Parts,
     slots: &mut [u32],

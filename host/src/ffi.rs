@@ -15,6 +15,8 @@
 //! A length is counted in elements and not in bytes, as `len` counts it.
 
 extern "C" {
+    fn workbook_version() -> u32;
+
     fn workbook_load(
         sheet: *const u8,
         sheet_len: usize,
@@ -111,6 +113,13 @@ extern "C" {
         answers: *mut u32,
         answers_len: usize,
     ) -> u32;
+}
+
+/// `workbook_version`.
+#[must_use]
+pub fn version() -> u32 {
+    // SAFETY: the function is lent nothing, and gives a number.
+    unsafe { workbook_version() }
 }
 
 /// `workbook_load` on lent slices of any lengths.

@@ -8,7 +8,11 @@
 //!
 //! No function here has a precondition. A state of one sheet with the memory of another, slices of
 //! any length and words of any value are met by an answer: a refusal or a step, never undefined
-//! behaviour.
+//! behaviour. Only where the linked archive is of another version than [`VERSION`], or gives a
+//! number that its description does not have, a call panics and says so.
+//!
+//! What comes back may get further cases and fields (`#[non_exhaustive]`); what is lent is listed in
+//! full, so that the compiler shows where something new has to be lent.
 //!
 //! ```
 //! use workbook_host::{Answer, Value, Walk};
@@ -33,6 +37,8 @@ mod answers;
 mod calls;
 pub mod mnemonics;
 mod refusal;
+mod room;
+mod version;
 mod walk;
 
 /// The exported functions over slices of any lengths. Public for the tests of the boundary, which
@@ -42,6 +48,8 @@ mod walk;
 pub mod ffi;
 
 pub use answers::{Answer, End, Ran, Value};
-pub use calls::{back, forward, load, presses, run, step, Loaded, Parts, Press, State};
+pub use calls::{back, forward, load, presses, run, step};
+pub use calls::{Loaded, Parts, Press, State, LOG_WORDS};
 pub use refusal::Refusal;
+pub use version::VERSION;
 pub use walk::{Reached, Walk};

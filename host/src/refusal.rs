@@ -1,89 +1,97 @@
-//! The numbered refusals, each with a sentence for a learner.
+//! The numbered refusals, each with a name and a sentence for a learner.
 
 use std::error::Error;
 use std::fmt;
 
-/// A refusal: the number, from 1 to 99, of the question that a method or a file fails.
+/// A refusal: the number, from 1 to 99, of the question that a method or a file fails
+/// (docs/RULES.md, 'Questions and refusals'). Each number that the library gives has a name here.
+///
+/// ```
+/// use workbook_host::{Refusal, Walk};
+///
+/// let refusal = Walk::open(b"LM\x00\x04\x00\x02".to_vec()).unwrap_err();
+/// assert_eq!(refusal, Refusal::SHEET_CUT);
+/// assert_eq!(refusal.number(), 21);
+/// assert_eq!(refusal.to_string(), "21: The file ends in the middle of a record.");
+/// ```
 #[derive(Clone, Copy, Debug, PartialEq, Eq, PartialOrd, Ord, Hash)]
 pub struct Refusal(u8);
 
 impl Refusal {
     /// The refusal with this number, where there is one: from 1 to 99.
-    pub fn new(number: u32) -> Option<Refusal> {
-        match u8::try_from(number) {
-            Ok(number @ 1..=99) => Some(Refusal(number)),
+    #[must_use]
+    pub const fn new(number: u32) -> Option<Refusal> {
+        match number {
+            1..=99 => Some(Refusal(number as u8)),
             _ => None,
         }
     }
 
-    /// The number, as document 01 has it.
-    pub fn number(self) -> u32 {
-        u32::from(self.0)
+    /// The number.
+    #[must_use]
+    pub const fn number(self) -> u32 {
+        self.0 as u32
     }
+}
 
-    /// What is wrong with the method or the file, in one sentence.
-    pub fn sentence(self) -> &'static str {
-        match self.0 {
-            1..=14 => self.of_a_press(),
-            21..=27 => self.of_a_sheet(),
-            _ => "This program does not know what this number stands for.",
-        }
-    }
+/// A constant for each refusal, and what is wrong with the method or the file, in one sentence.
+macro_rules! refusals {
+    ($($name:ident = $number:literal: $sentence:literal;)*) => {
+        /// The refusals that the library gives.
+        impl Refusal {
+            $(#[doc = $sentence] pub const $name: Refusal = Refusal($number);)*
 
-    fn of_a_press(self) -> &'static str {
-        match self.0 {
-            1 => {
-                "The memory has too few slots for the method's locals and operand stack, \
-                 or its two parts for constants are not equally long or too long."
-            }
-            2 => "The offset is outside of the code, or the code is empty or above 65,535 bytes.",
-            3 => "The operand stack holds more than max_stack allows.",
-            4 => {
-                "The byte here is not one of the 164 instructions, \
-                 or WIDE stands before one that it cannot widen."
-            }
-            5 => "The code ends in the middle of the instruction.",
-            6 => {
-                "The switch has a lowest index above its highest, a negative number of pairs, \
-                 or keys that do not rise."
-            }
-            7 => "The instruction takes more from the operand stack than is on it.",
-            8 => "The instruction puts more on the operand stack than max_stack allows.",
-            9 => {
-                "The instruction uses a local that is not below max_locals; \
-                 a long or a double uses two locals."
-            }
-            10 => "There is no constant of the kind that the instruction takes at its index.",
-            11 => "The instruction leads to an offset outside of the code.",
-            12 => "The log is full, so the step could not be taken back later.",
-            13 => "The walk is at its start, so there is no step to take back.",
-            _ => "The log has no entry from which the last step can be taken back.",
-        }
-    }
+            /// All of them, by number.
+            pub const ALL: &'static [Refusal] = &[$(Refusal::$name),*];
 
-    fn of_a_sheet(self) -> &'static str {
-        match self.0 {
-            21 => "The file ends in the middle of a record.",
-            22 => "The file has a record whose mark is none of LM, CD, KI and AR.",
-            23 => {
-                "The file's records are not LM, CD, any number of KI and AR, in this order, \
-                 or one is missing."
+            #[cfg(test)]
+            const NAMES: &'static [&'static str] = &[$(stringify!($name)),*];
+
+            /// What is wrong with the method or the file, in one sentence.
+            #[must_use]
+            pub const fn sentence(self) -> &'static str {
+                match self.0 {
+                    $($number => $sentence,)*
+                    _ => "This program does not know what this number stands for.",
+                }
             }
-            24 => {
-                "The file has a record of a wrong length: LM has 4 bytes, CD at least 1, \
-                 KI 7 or 11, AR a multiple of 4."
-            }
-            25 => {
-                "The file has a constant whose tag does not suit its length, or whose index is 0, \
-                 not above all indices before it, or too high for a long or a double."
-            }
-            26 => {
-                "The lent memory is too small for the method in the file, \
-                 or its two parts for constants are not equally long or too long."
-            }
-            _ => "The file has more argument words than max_locals.",
         }
-    }
+    };
+}
+
+// A step, a press or a run; then a sheet.
+refusals! {
+    LENT = 1: "The memory has too few slots for the method's locals and operand stack, \
+               or its two parts for constants are not equally long or too long.";
+    PC = 2: "The offset is outside of the code, or the code is empty or above 65,535 bytes.";
+    DEPTH = 3: "The operand stack holds more than max_stack allows.";
+    OPCODE = 4: "The byte here is not one of the 164 instructions, \
+                 or WIDE stands before one that it cannot widen.";
+    OPERANDS = 5: "The code ends in the middle of the instruction.";
+    SWITCH = 6: "The switch has a lowest index above its highest, a negative number of pairs, \
+                 or keys that do not rise.";
+    POP = 7: "The instruction takes more from the operand stack than is on it.";
+    PUSH = 8: "The instruction puts more on the operand stack than max_stack allows.";
+    LOCAL = 9: "The instruction uses a local that is not below max_locals; \
+                a long or a double uses two locals.";
+    CONSTANT = 10: "There is no constant of the kind that the instruction takes at its index.";
+    NEXT_PC = 11: "The instruction leads to an offset outside of the code.";
+    LOG_FULL = 12: "The log is full, so the step could not be taken back later.";
+    START = 13: "The walk is at its start, so there is no step to take back.";
+    ENTRY = 14: "The log has no entry from which the last step can be taken back.";
+
+    SHEET_CUT = 21: "The file ends in the middle of a record.";
+    SHEET_MARK = 22: "The file has a record whose mark is none of LM, CD, KI and AR.";
+    SHEET_ORDER = 23: "The file's records are not LM, CD, any number of KI and AR, \
+                       in this order, or one is missing.";
+    SHEET_LENGTH = 24: "The file has a record of a wrong length: LM has 4 bytes, CD at least 1, \
+                        KI 7 or 11, AR a multiple of 4.";
+    SHEET_CONSTANT = 25: "The file has a constant whose tag does not suit its length, \
+                          or whose index is 0, not above all indices before it, \
+                          or too high for a long or a double.";
+    SHEET_MEMORY = 26: "The lent memory is too small for the method in the file, \
+                        or its two parts for constants are not equally long or too long.";
+    SHEET_ARGUMENTS = 27: "The file has more argument words than max_locals.";
 }
 
 impl fmt::Display for Refusal {
@@ -103,9 +111,32 @@ mod tests {
         Refusal::new(number).unwrap()
     }
 
-    /// The numbers of document 01.
+    /// The numbers that the library gives.
     fn known() -> impl Iterator<Item = u32> {
         (1..=14).chain(21..=27)
+    }
+
+    #[test]
+    fn each_refusal_has_a_name() {
+        let named = Refusal::ALL.iter().map(|refusal| refusal.number());
+        assert!(named.eq(known()));
+    }
+
+    #[test]
+    fn the_names_are_those_of_the_header() {
+        let header = include_str!("../../include/workbook.h");
+        let of_a_press = header.matches(" WORKBOOK_REFUSED_").count();
+        let of_a_sheet = header.matches(" WORKBOOK_SHEET_").count();
+        assert_eq!(of_a_press + of_a_sheet, Refusal::ALL.len());
+        for (name, refusal) in Refusal::NAMES.iter().zip(Refusal::ALL) {
+            let group = if name.starts_with("SHEET_") {
+                ""
+            } else {
+                "REFUSED_"
+            };
+            let line = format!(" WORKBOOK_{group}{name} = {},", refusal.number());
+            assert!(header.contains(&line), "{line}");
+        }
     }
 
     #[test]

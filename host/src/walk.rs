@@ -1,25 +1,34 @@
 //! A walk that owns its memory, for programs.
 
-use crate::{calls, mnemonics, Answer, Parts, Ran, Refusal, State};
+use crate::room::Room;
+use crate::{calls, mnemonics, Answer, Parts, Ran, Refusal, State, LOG_WORDS};
 use std::ops::Range;
 
-/// The longest pool: an index has 16 bits.
-const POOL: usize = 65_536;
-/// The largest frame: two sizes of 16 bits.
-const FRAME: usize = 2 * 65_535;
-/// How many entries a log that grows begins with.
+/// How many entries a log that grows has after its first step.
 const FIRST_ENTRIES: usize = 64;
-/// The number of the refusal of a forward press that finds no room in the log.
-const LOG_FULL: u32 = 12;
 
 /// One entry of the log.
-type Entry = [u32; 10];
+type Entry = [u32; LOG_WORDS];
 
 /// A loaded sheet with its memory and its log.
 ///
-/// The memory is private and large enough for every sheet, so what a walk shows is always a stage
-/// of the plain walk of its sheet: the offset, the locals and the stack after [`Walk::count`] steps
+/// The memory is private and has what the sheet asks for, so what a walk shows is always a stage of
+/// the plain walk of its sheet: the offset, the locals and the stack after [`Walk::count`] steps
 /// from the start.
+///
+/// ```
+/// use workbook_host::{Answer, Refusal, Walk};
+///
+/// // max_stack 1, max_locals 1; ILOAD_0, ISTORE_0, RETURN; one argument.
+/// let sheet = b"LM\x00\x04\x00\x01\x00\x01CD\x00\x03\x1A\x3B\xB1AR\x00\x04\x00\x00\x00\x05";
+/// let mut walk = Walk::open(sheet.to_vec())?;
+/// assert_eq!(walk.next_instruction(), "iload_0");
+/// assert_eq!(walk.forward(), Answer::Granted);
+/// assert_eq!((walk.locals(), walk.stack()), (&[5][..], &[5][..]));
+/// assert_eq!(walk.back(), Answer::Granted);
+/// assert_eq!(walk.back(), Answer::Refused(Refusal::START));
+/// # Ok::<(), Refusal>(())
+/// ```
 #[derive(Clone, Debug)]
 pub struct Walk {
     method: Method,
@@ -50,7 +59,23 @@ impl Method {
 }
 
 /// Where a run on a copy ended.
+///
+/// ```
+/// use workbook_host::Walk;
+///
+/// // ICONST_3, ICONST_4, IADD, IRETURN.
+/// let sheet = b"LM\x00\x04\x00\x02\x00\x00CD\x00\x04\x06\x07\x60\xACAR\x00\x00";
+/// let walk = Walk::open(sheet.to_vec())?;
+/// let reached = walk.run(u64::MAX);
+/// assert_eq!((reached.ran.steps, reached.state.pc), (3, 3));
+/// // The sum, and the 4 that still stands above the top.
+/// assert_eq!(reached.frame, [7, 4]);
+/// assert_eq!(walk.count(), 0);
+/// # Ok::<(), workbook_host::Refusal>(())
+/// ```
 #[derive(Clone, Debug, PartialEq, Eq)]
+#[must_use = "the walk itself stays where it is"]
+#[non_exhaustive]
 pub struct Reached {
     /// Why it ended, and after how many steps.
     pub ran: Ran,
@@ -63,22 +88,29 @@ pub struct Reached {
 impl Walk {
     /// Loads a sheet, with a log that grows: forward is never refused by a full log, and the walk
     /// takes 40 bytes more for each step.
+    ///
+    /// # Errors
+    ///
+    /// The refusal of the sheet, from 21 to 27 without 26: there is memory for every sheet.
     pub fn open(sheet: Vec<u8>) -> Result<Walk, Refusal> {
-        Walk::open_logged(sheet, FIRST_ENTRIES, true)
+        Walk::open_logged(sheet, 0, true)
     }
 
     /// Loads a sheet, with a log of a given number of entries: where it is full, forward is refused
     /// with 12.
+    ///
+    /// # Errors
+    ///
+    /// As [`Walk::open`].
     pub fn open_with_log(sheet: Vec<u8>, entries: usize) -> Result<Walk, Refusal> {
         Walk::open_logged(sheet, entries, false)
     }
 
     fn open_logged(sheet: Vec<u8>, entries: usize, log_grows: bool) -> Result<Walk, Refusal> {
-        let (mut kinds, mut words, mut slots) = (vec![0; POOL], vec![0; POOL], vec![0; FRAME]);
+        let room = Room::of(&sheet);
+        let (mut kinds, mut words) = (vec![0; room.pool], vec![0; room.pool]);
+        let mut slots = vec![0; room.slots];
         let loaded = calls::load(&sheet, &mut slots, &mut kinds, &mut words)?;
-        // The frame is all that a press reads or writes.
-        slots.truncate(loaded.state.frame());
-        slots.shrink_to_fit();
         let method = Method {
             sheet,
             code: loaded.code,
@@ -98,7 +130,7 @@ impl Walk {
     /// One step further.
     pub fn forward(&mut self) -> Answer {
         match self.press_forward() {
-            Answer::Refused(refusal) if self.log_grows && refusal.number() == LOG_FULL => {
+            Answer::Refused(Refusal::LOG_FULL) if self.log_grows => {
                 // A refused press wrote nothing, so it can be made again.
                 let entries = (2 * self.log.len()).max(FIRST_ENTRIES);
                 self.log.resize(entries, Entry::default());
@@ -128,53 +160,63 @@ impl Walk {
     }
 
     /// What the steps of this walk read.
+    #[must_use]
     pub fn parts(&self) -> Parts<'_> {
         self.method.parts()
     }
 
     /// The whole sheet.
+    #[must_use]
     pub fn sheet(&self) -> &[u8] {
         &self.method.sheet
     }
 
     /// The state.
+    #[must_use]
     pub fn state(&self) -> State {
         self.state
     }
 
     /// The locals, then all places of the operand stack, also those above the top.
+    #[must_use]
     pub fn frame(&self) -> &[u32] {
         &self.slots
     }
 
     /// The locals. A long or a double takes two of them, its low word first.
+    #[must_use]
     pub fn locals(&self) -> &[u32] {
         &self.slots[..usize::from(self.state.max_locals)]
     }
 
     /// The places of the operand stack that are in use, the top one last. A long or a double takes
     /// two of them, its low word first.
+    #[must_use]
     pub fn stack(&self) -> &[u32] {
         // No step of the library leaves more places in use than the frame has.
         &self.slots[usize::from(self.state.max_locals)..][..self.state.depth as usize]
     }
 
     /// The offset of the next instruction in the code.
+    #[must_use]
     pub fn pc(&self) -> u32 {
         self.state.pc
     }
 
     /// How many places of the operand stack are in use.
+    #[must_use]
     pub fn depth(&self) -> u32 {
         self.state.depth
     }
 
     /// How many steps the walk is from its start.
+    #[must_use]
     pub fn count(&self) -> u64 {
         self.state.count
     }
 
     /// The next instruction as text, for display only.
+    #[must_use]
     pub fn next_instruction(&self) -> String {
         mnemonics::instruction(self.parts().code, self.state.pc)
     }

@@ -84,7 +84,7 @@ fn forward_is_a_step_with_history(
 
 fn one_step_of_a_run(lesson: &Lesson, stepped: &Lesson, step: Answer) {
     let mut ran = lesson.clone();
-    let Ran { end, steps } = ran.run(1);
+    let Ran { end, steps, .. } = ran.run(1);
     only_the_frame_is_written(lesson, &ran);
     assert!(ran.log == lesson.log && ran.slots == stepped.slots);
     let (expected_end, expected_steps) = match step {
@@ -92,6 +92,7 @@ fn one_step_of_a_run(lesson: &Lesson, stepped: &Lesson, step: Answer) {
         Answer::Return(value) => (End::Return(value), 0),
         Answer::Throw => (End::Throw, 0),
         Answer::Refused(refusal) => (End::Refused(refusal), 0),
+        answer => panic!("a run has no end for {answer}"),
     };
     assert_eq!((end, steps), (expected_end, expected_steps));
     let at_once = matches!(end, End::Refused(refusal) if refusal.number() <= 3);

@@ -1,5 +1,5 @@
-//! A list of presses in one call equals single presses, and both equal the plain walk of document
-//! 01.
+//! A list of presses in one call equals single presses, and both equal the plain walk
+//! (docs/RULES.md).
 #![forbid(unsafe_code)]
 
 mod common;

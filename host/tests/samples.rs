@@ -7,7 +7,7 @@ use common::memory::{Lent, Memory};
 use common::{accepted_samples, refused, samples, Lengths, Sample};
 use std::fmt::Write;
 use workbook_host::{back, forward, load, run, step};
-use workbook_host::{Answer, End, Loaded, Parts, Ran, State, Value};
+use workbook_host::{Answer, End, Loaded, Parts, State, Value};
 
 /// What `walksheet` lends, and how far it walks.
 const POOL: usize = 4_096;
@@ -15,11 +15,14 @@ const SLOTS: usize = 8_192;
 const STEPS: usize = 1_600;
 const SHEET: usize = 65_536;
 
-/// The printed walk of document 01, with the steps made by a function.
+/// The printed walk (docs/RULES.md), with the steps made by a function.
 fn printed(sheet: &[u8], mut press: impl FnMut(Parts, &mut [u32], &mut State) -> Answer) -> String {
     let sheet = &sheet[..sheet.len().min(SHEET)];
     let (mut slots, mut kinds, mut words) = (vec![0; SLOTS], vec![0; POOL], vec![0; POOL]);
-    let Loaded { mut state, code } = match load(sheet, &mut slots, &mut kinds, &mut words) {
+    let loaded = load(sheet, &mut slots, &mut kinds, &mut words);
+    let Loaded {
+        mut state, code, ..
+    } = match loaded {
         Ok(loaded) => loaded,
         Err(refusal) => return format!("sheet {}\n", refusal.number()),
     };
@@ -55,6 +58,7 @@ fn printed(sheet: &[u8], mut press: impl FnMut(Parts, &mut [u32], &mut State) ->
             Answer::Return(value) => return text + &printed_value(value),
             Answer::Throw => return text + "throw arithmetic\n",
             Answer::Refused(refusal) => return text + &format!("refused {}\n", refusal.number()),
+            answer => panic!("a printed walk has no line for {answer}"),
         }
     }
     text + "stopped\n"
@@ -257,15 +261,8 @@ fn a_run_of_so_many_steps_ends_at_each_stage() {
             let (mut state, mut slots) = walk.stages[0].clone();
             let budget = number as u64;
             let ran = run(walk.memory.parts(), slots.part_mut(), &mut state, budget);
-            assert_eq!(
-                ran,
-                Ran {
-                    end: End::Stopped,
-                    steps: budget
-                },
-                "{}",
-                sample.name
-            );
+            let expected = (End::Stopped, budget);
+            assert_eq!((ran.end, ran.steps), expected, "{}", sample.name);
             let what = format!("{} at {number}", sample.name);
             stands_at(stage, state, &slots, &what);
         }
@@ -282,13 +279,13 @@ fn a_run_with_budget_left_ends_where_the_walk_ends() {
             Answer::Return(value) => End::Return(value),
             Answer::Throw => End::Throw,
             Answer::Refused(refusal) => End::Refused(refusal),
-            Answer::Granted => unreachable!("the last press is not granted"),
+            answer => panic!("the last press is answered {answer}"),
         };
         let steps = walk.stages.len() as u64 - 1;
         for budget in [steps + 1, steps + 2, u64::MAX] {
             let (mut state, mut slots) = walk.stages[0].clone();
             let ran = run(walk.memory.parts(), slots.part_mut(), &mut state, budget);
-            assert_eq!(ran, Ran { end, steps }, "{}", sample.name);
+            assert_eq!((ran.end, ran.steps), (end, steps), "{}", sample.name);
             let last = walk.stages.last().unwrap();
             stands_at(last, state, &slots, &sample.name);
         }

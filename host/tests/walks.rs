@@ -5,7 +5,7 @@ mod common;
 
 use common::records::{arguments, constant, record, sizes};
 use common::{accepted_samples, refused, sample, samples, sheet};
-use workbook_host::{Answer, End, Value, Walk};
+use workbook_host::{load, Answer, End, Refusal, State, Value, Walk};
 
 #[test]
 fn a_walk_opens_what_a_load_accepts() {
@@ -32,6 +32,55 @@ fn there_is_memory_for_every_sheet() {
         walk.forward(),
         Answer::Return(Value::Long(0x1122_3344_5566_7788))
     );
+}
+
+#[test]
+fn a_walk_keeps_what_its_sheet_asks_for() {
+    let walk = Walk::open(sheet(2, 3, &[0xB1], &[])).unwrap();
+    let parts = walk.parts();
+    let kept = (walk.frame().len(), parts.kinds.len(), parts.words.len());
+    assert_eq!(kept, (5, 0, 0));
+
+    // Indices may leave gaps, and a double takes two.
+    let code = record(b"CD", &[0xB1]);
+    let pool = [constant(3, 3, &[0; 4]), constant(7, 6, &[1; 8])].concat();
+    let walk = Walk::open([sizes(0, 0), code, pool, arguments(&[])].concat()).unwrap();
+    assert_eq!(walk.parts().kinds, [0, 0, 0, 3, 0, 0, 0, 6, 0]);
+    assert_eq!(walk.parts().words.len(), 9);
+}
+
+/// What a load into the largest memory gives: the state, the frame, and the pool up to the highest
+/// index, with zeros and nothing else after that.
+type Opened = Result<(State, Vec<u32>, Vec<u8>, Vec<u32>), Refusal>;
+
+fn loaded_in_the_largest_memory(sheet: &[u8], pool: usize) -> Opened {
+    let (mut slots, mut kinds, mut words) = (vec![0; 131_070], vec![0; 65_536], vec![0; 65_536]);
+    let state = load(sheet, &mut slots, &mut kinds, &mut words)?.state;
+    slots.truncate(state.frame());
+    assert!(kinds.drain(pool..).all(|kind| kind == 0));
+    assert!(words.drain(pool..).all(|word| word == 0));
+    Ok((state, slots, kinds, words))
+}
+
+#[test]
+fn a_walk_opens_as_if_its_memory_were_the_largest() {
+    for sample in samples() {
+        for place in 0..sample.sheet.len().min(80) {
+            for byte in [0x00, 0x05, 0xFF] {
+                let mut sheet = sample.sheet.clone();
+                sheet[place] = byte;
+                let walk = Walk::open(sheet.clone());
+                let pool = walk.as_ref().map_or(0, |walk| walk.parts().kinds.len());
+                let opened = walk.map(|walk| {
+                    let (frame, parts) = (walk.frame().to_vec(), walk.parts());
+                    let (kinds, words) = (parts.kinds.to_vec(), parts.words.to_vec());
+                    (walk.state(), frame, kinds, words)
+                });
+                let expected = loaded_in_the_largest_memory(&sheet, pool);
+                assert_eq!(opened, expected, "{} with {byte} at {place}", sample.name);
+            }
+        }
+    }
 }
 
 #[test]

@@ -32,7 +32,7 @@ record Sample(int stack, int locals, byte[] code, List<Constant> pool, String ki
     return pool.isEmpty() ? 1 : pool.get(pool.size() - 1).next();
   }
 
-  /** The sheet, as document 01 lays it out. */
+  /** The sheet (docs/RULES.md, 'The sheet'). */
   byte[] sheet() throws IOException {
     ByteArrayOutputStream bytes = new ByteArrayOutputStream();
     DataOutputStream out = new DataOutputStream(bytes);

@@ -1,4 +1,4 @@
-// The lines of a walk, as document 01's 'Printed walk' has them.
+// The lines of a walk (RULES, 'The printed walk').
 use crate::print;
 use crate::print_hex;
 use crate::print_number;

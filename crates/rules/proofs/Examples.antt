@@ -1,4 +1,4 @@
--- The marked examples of document 01 as one table, and its printed walk. Assumes nothing.
+-- The marked examples (RULES, 'Marked examples') as one table, and the printed walk. Assumes nothing.
 use Prim.Native.Nat.{ℕ, _-_}
 use mathlib.Core.Path.{_≡_, refl}
 use mathlib.Core.List.{List, [], _∷_, _++_}

@@ -117,7 +117,7 @@ agree f g (suc n) e k l = go (λ r h. agree f g n r k h) (eqb k n) refl
     go ih true d = rw (eqb-true k n d) first
     go ih false d = let h = eqb-false k n d in ih rest (omega (arith, h))
 
--- the core opcodes are document 01's ranges
+-- the core opcodes are the ranges of RULES, 'The step'
 abbrev between : ℕ → ℕ → ℕ → Bool
 between a b n = leb a n && leb n b
 

@@ -1,5 +1,5 @@
--- What each answer says, case by case: a number, and the value that goes with it as two words. Document 01's numbers are those of the refusals, 1 to 99;
--- the others are the exported functions'. Assumes nothing.
+-- What each answer says, case by case: a number, and the value that goes with it as two words. The refusals have 1 to 99 (RULES, 'Questions and
+-- refusals'); the others are numbers of the exported functions. Assumes nothing.
 use Prim.Native.Nat.{ℕ, _/_, _%_, _^_}
 use Rattle.values.specs.declared.Value.{Value}
 use Rattle.values.specs.declared.Value.the-variants.{Void, Int, Float, Reference, Long, Double}

@@ -1,4 +1,4 @@
--- The instruction at an offset of the code: questions 4 and 5 of document 01, for every format, WIDE and both switches. Assumes nothing.
+-- The instruction at an offset of the code: questions 4 and 5 (RULES, 'Questions and refusals'), for every format, WIDE and both switches. Assumes nothing.
 use Prim.Native.Nat.{ℕ, zero, suc, _+_, _-_, _*_, _/_}
 use mathlib.Core.Bool.{Bool, true, _&&_, _||_, cond}
 use mathlib.Core.List.{List, [], _∷_}

@@ -1,4 +1,4 @@
--- The plain walk of a sheet: from the sheet and the lengths of the lent slices, and nothing else (document 01, 'The plain walk'). What the sheet gives is said
+-- The plain walk of a sheet: from the sheet and the lengths of the lent slices, and nothing else (RULES, 'The plain walk'). What the sheet gives is said
 -- place by place here, apart from how a load fills it in, so that demand 3 measures the load too. Assumes nothing.
 use Prim.Native.Nat.{ℕ, zero, suc, _+_, _-_, _*_}
 use mathlib.Core.Bool.{cond}

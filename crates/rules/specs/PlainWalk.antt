@@ -1,4 +1,4 @@
--- Stages and the plain walk (document 01, 'The plain walk'), of any machine. Assumes nothing.
+-- Stages and the plain walk (RULES, 'The plain walk'), of any machine. Assumes nothing.
 use Prim.Native.Nat.{ℕ, zero, suc, _+_, _-_}
 use mathlib.Core.Bool.{cond}
 use mathlib.Core.List.{List, [], _∷_}

@@ -1,4 +1,4 @@
--- Questions 1 to 3 and 6 to 9 of document 01 in their order, each with the number that a no gives. 4 and 5 are in Fetch, 10 in Step. Assumes nothing.
+-- Questions 1 to 3 and 6 to 9 (RULES, 'Questions and refusals') in their order, each with the number that a no gives. 4 and 5 are in Fetch, 10 in Step. Assumes nothing.
 use Prim.Native.Nat.{ℕ, _+_, _-_}
 use mathlib.Core.Bool.{Bool, true, false, _&&_, _||_}
 use mathlib.Core.List.{List, [], _∷_}
@@ -17,7 +17,7 @@ pub record Method : Type 0 where
 abbrev pub method : List ℕ → List ℕ → List ℕ → Method
 method code kinds words = record { code = code; kinds = kinds; words = words }
 
--- how many places a frame has (document 01): all locals and stack places
+-- how many places a frame has (RULES, 'Terms'): all locals and stack places
 abbrev pub frameSize : State → ℕ
 frameSize s = s .«max_locals» + s .«max_stack»
 

@@ -1,4 +1,4 @@
--- The sheet (document 01): its records, what is asked of each and of the lent memory, and what an accepted load fills and gives. Assumes nothing.
+-- The sheet (RULES, 'The sheet'): its records, what is asked of each and of the lent memory, and what an accepted load fills and gives. Assumes nothing.
 use Prim.Native.Nat.{ℕ, zero, suc, _+_, _/_, _%_, _-_}
 use mathlib.Core.Bool.{Bool, _||_, cond}
 use mathlib.Core.List.{List, [], _∷_, _++_}

@@ -17,7 +17,7 @@ use Rattle.rules.specs.Questions.{Method, method, frameSize, popped, pus
 
 -- ---- the words that an instruction works on
 
--- the words of the frame (document 01): all locals and stack places
+-- the words of the frame (RULES, 'Terms'): all locals and stack places
 abbrev pub frame : State → List ℕ → List ℕ
 frame s slots = take (frameSize s) slots
 

@@ -1,4 +1,4 @@
-// Prints the walk of a sheet that stands on standard input, as document 01's 'Printed walk' says.
+// Prints the walk of a sheet that stands on standard input (RULES, 'The printed walk').
 use interpreter::decide;
 use interpreter::step;
 use printing::print;

@@ -1,3 +1,4 @@
 pub mod StateWords
 pub mod Calls
 pub mod Demand3
+pub mod Version

@@ -5,6 +5,7 @@ mod loads;
 mod runs;
 mod state_words;
 mod steps;
+mod version;
 
 pub use lists::workbook_presses;
 pub use loads::workbook_load;
@@ -12,3 +13,4 @@ pub use runs::workbook_run;
 pub use steps::workbook_back;
 pub use steps::workbook_forward;
 pub use steps::workbook_step;
+pub use version::workbook_version;

@@ -167,7 +167,7 @@ fn press_times() -> [(&'static str, f64); 4] {
 
     let forward_one = presses_time(&start, ENTRIES, |state, slots| {
         for _ in 0..ENTRIES {
-            black_box(forward(parts, slots, &mut log, state));
+            let _ = black_box(forward(parts, slots, &mut log, state));
         }
     });
     let list = [Press::Forward; ENTRIES];
@@ -176,10 +176,11 @@ fn press_times() -> [(&'static str, f64); 4] {
     });
 
     let mut end = start;
-    presses(parts, &mut end.1, &mut log, &mut end.0, &list);
+    let answers = presses(parts, &mut end.1, &mut log, &mut end.0, &list);
+    assert_eq!(answers.len(), ENTRIES, "a press has no answer");
     let back_one = presses_time(&end, 0, |state, slots| {
         for _ in 0..ENTRIES {
-            black_box(back(parts, slots, &log, state));
+            let _ = black_box(back(parts, slots, &log, state));
         }
     });
     let list = [Press::Back; ENTRIES];

@@ -79,7 +79,7 @@ fn run(start: &Walk, walk: &Walk, number: &str) -> String {
         },
     };
     let reached = start.run(budget);
-    let (Ran { end, steps }, State { pc, depth, .. }) = (reached.ran, reached.state);
+    let (Ran { end, steps, .. }, State { pc, depth, .. }) = (reached.ran, reached.state);
     let same = (pc, depth) == (walk.pc(), walk.depth()) && reached.frame == walk.frame();
     let compared = if same {
         "the same as"
