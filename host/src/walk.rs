@@ -1,6 +1,7 @@
 //! A walk that owns its memory, for programs.
 
-use crate::{calls, mnemonics, Answer, Parts, Ran, Refusal, State};
+use crate::{calls, Answer, Parts, Ran, Refusal, State};
+use bytecode::mnemonics;
 use std::ops::Range;
 
 /// The longest pool: an index has 16 bits.

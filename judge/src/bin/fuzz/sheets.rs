@@ -2,7 +2,7 @@
 
 use super::codes::{code, long_code, shape};
 use super::random::Random;
-use super::records::{arguments, constant, record, sizes};
+use bytecode::records::{arguments, constant, record, sizes};
 
 const SAMPLES: [&[u8]; 18] = [
     include_bytes!("../../../../samples/division_by_zero.sheet"),

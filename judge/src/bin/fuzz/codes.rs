@@ -1,7 +1,8 @@
 //! Codes: instructions with operands that are mostly plausible.
 
 use super::random::Random;
-use super::rules::places;
+use bytecode::instructions::{of_opcode, switch_operands, widened, Operands};
+use judge::shapes::places;
 
 /// Core opcodes, those with operands more often than their number.
 const WITH_OPERANDS: [u8; 32] = [
@@ -60,34 +61,38 @@ fn distance(random: &mut Random, at: usize, length: usize) -> i32 {
 fn instruction(random: &mut Random, code: &mut Vec<u8>, opcode: u8, shape: &Shape, length: usize) {
     let at = code.len();
     code.push(opcode);
-    match opcode {
-        16 => code.push(random.word() as u8),
-        17 => code.extend((random.word() as u16).to_be_bytes()),
-        18 => code.push(constant(random, shape, false) as u8),
-        19 | 20 => {
+    let Some(entry) = of_opcode(opcode) else {
+        return;
+    };
+    match entry.operands {
+        Operands::Byte => code.push(random.word() as u8),
+        Operands::Short => code.extend((random.word() as u16).to_be_bytes()),
+        Operands::Index if opcode == 18 => code.push(constant(random, shape, false) as u8),
+        Operands::LongIndex => {
             let index = constant(random, shape, opcode == 20);
             code.extend((index as u16).to_be_bytes());
         }
-        21..=25 | 54..=58 => code.push(local(random, shape) as u8),
-        132 => code.extend([local(random, shape) as u8, random.word() as u8]),
-        153..=167 | 198 | 199 => {
-            code.extend((distance(random, at, length) as i16).to_be_bytes());
-        }
-        170 | 171 => switch(random, code, opcode, length),
-        196 => {
-            let opcode = match random.below(10) {
-                0 => random.next() as u8,
-                1..=3 => 132,
-                _ => random.pick(&WITH_OPERANDS[5..15]),
-            };
-            code.push(opcode);
-            code.extend((local(random, shape) as u16).to_be_bytes());
-            if opcode == 132 {
-                code.extend((random.word() as u16).to_be_bytes());
-            }
-        }
-        200 => code.extend(distance(random, at, length).to_be_bytes()),
-        _ => {}
+        Operands::Index => code.push(local(random, shape) as u8),
+        Operands::Increment => code.extend([local(random, shape) as u8, random.word() as u8]),
+        Operands::Branch => code.extend((distance(random, at, length) as i16).to_be_bytes()),
+        Operands::LongBranch => code.extend(distance(random, at, length).to_be_bytes()),
+        Operands::TableSwitch | Operands::LookupSwitch => switch(random, code, opcode, length),
+        Operands::Wide => wide(random, code, shape),
+        Operands::None | Operands::LongIncrement => {}
+    }
+}
+
+/// Writes what `wide` widens, seldom something that it cannot.
+fn wide(random: &mut Random, code: &mut Vec<u8>, shape: &Shape) {
+    let opcode = match random.below(10) {
+        0 => random.next() as u8,
+        1..=3 => 132,
+        _ => random.pick(&WITH_OPERANDS[5..15]),
+    };
+    code.push(opcode);
+    code.extend((local(random, shape) as u16).to_be_bytes());
+    if opcode == 132 {
+        code.extend((random.word() as u16).to_be_bytes());
     }
 }
 
@@ -245,18 +250,23 @@ fn length(code: &[u8], at: usize) -> usize {
         let bytes = code.get(from..).and_then(|rest| rest.first_chunk());
         bytes.map_or(0, |bytes| i32::from_be_bytes(*bytes))
     };
-    let operands = (at / 4 + 1) * 4;
-    match code.get(at) {
-        Some(16 | 18 | 21..=25 | 54..=58) => 2,
-        Some(17 | 19 | 20 | 132 | 153..=167 | 198 | 199) => 3,
-        Some(170) => {
+    let Some(&opcode) = code.get(at) else {
+        return 1;
+    };
+    let operands = switch_operands(at);
+    match of_opcode(opcode).map(|entry| entry.operands) {
+        None => 1,
+        Some(Operands::TableSwitch) => {
             let entries = word(operands + 8).wrapping_sub(word(operands + 4));
             operands - at + 16 + 4 * entries.clamp(0, 9) as usize
         }
-        Some(171) => operands - at + 8 + 8 * word(operands + 4).clamp(0, 9) as usize,
-        Some(196) if code.get(at + 1) == Some(&132) => 6,
-        Some(196) => 4,
-        Some(200) => 5,
-        _ => 1,
+        Some(Operands::LookupSwitch) => {
+            operands - at + 8 + 8 * word(operands + 4).clamp(0, 9) as usize
+        }
+        Some(Operands::Wide) => {
+            let second = code.get(at + 1).and_then(|&opcode| widened(opcode));
+            2 + second.unwrap_or(Operands::LongIndex).length().unwrap_or(0)
+        }
+        Some(fixed) => 1 + fixed.length().unwrap_or(0),
     }
 }

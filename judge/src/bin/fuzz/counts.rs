@@ -1,7 +1,7 @@
 //! What was called how often.
 
 use super::memory::{Function, Memory};
-use super::rules::places;
+use judge::shapes::places;
 
 /// Numbers that come back are below this.
 const NUMBERS: usize = 128;

@@ -1,9 +1,9 @@
-//! The records of a sheet.
+//! The records of a sheet (docs/SHEET.md).
 
-/// A record: its mark, its length and its body.
+/// A record: its mark, its length and its body. A body above 65,535 bytes has no record.
 pub fn record(mark: &[u8; 2], body: &[u8]) -> Vec<u8> {
-    let length = u16::try_from(body.len()).unwrap().to_be_bytes();
-    [mark, &length[..], body].concat()
+    let length = u16::try_from(body.len()).expect("a body of at most 65,535 bytes");
+    [mark, &length.to_be_bytes()[..], body].concat()
 }
 
 /// The record with the sizes.

@@ -1,11 +1,12 @@
 //! Hostile memory: lengths, states and logs that are mostly nearly right.
 
+use super::boundary;
 use super::codes::{code, long_code, shape, start};
 use super::memory::{Function, Lent, Memory};
-use super::model::{self, read_sheet};
 use super::random::Random;
-use super::rules::places;
 use super::sheets::sheet;
+use judge::shapes::places;
+use judge::sheet::read;
 
 /// A length that is mostly what is needed or a little more.
 fn reaching(random: &mut Random, needed: usize) -> usize {
@@ -89,7 +90,7 @@ pub fn to_load_again(random: &mut Random, memory: &Memory) -> Memory {
 }
 
 fn around_sheet(random: &mut Random, sheet: &[u8], large: bool, bare: bool) -> Memory {
-    let needs = match read_sheet(sheet) {
+    let needs = match read(sheet) {
         Ok(read) => [read.max_stack + read.max_locals, read.reach],
         Err(_) => [random.below(20), random.below(9)],
     };
@@ -285,7 +286,7 @@ pub fn set_budget(random: &mut Random, memory: &mut Memory) {
     if random.once_in(8) {
         let mut copy = memory.clone();
         copy.budget = 2_000;
-        if model::call(Function::Run, &mut copy) != 120 {
+        if boundary::call(Function::Run, &mut copy) != 120 {
             let any = random.next();
             memory.budget =
                 random.pick(&[u64::MAX, 1 << 63, 1 << 32, u32::MAX.into(), any | 1 << 40]);

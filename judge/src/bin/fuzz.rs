@@ -6,8 +6,7 @@
 //!
 //! - fuzz/promise.rs: guards around each part, parts that are only read, the numbers of a function,
 //!   and what the boundary (include/workbook.h) lets a call write, without a look at any instruction;
-//! - fuzz/model.rs and rules.rs: the number and every word, by another loader and another
-//!   interpreter, written from document 01 and JVMS.
+//! - fuzz/boundary.rs: the number and every word, by this package's model.
 //!
 //! And of some calls: backs take forwards back, a list of presses is its presses, and a run is its
 //! steps.
@@ -26,6 +25,8 @@ use std::env;
 use std::process::ExitCode;
 use std::time::Instant;
 
+#[path = "fuzz/boundary.rs"]
+mod boundary;
 #[path = "fuzz/cases.rs"]
 mod cases;
 #[path = "fuzz/codes.rs"]
@@ -34,26 +35,20 @@ mod codes;
 mod counts;
 #[path = "fuzz/lent.rs"]
 mod lent;
-#[path = "fuzz/model.rs"]
-mod model;
 #[path = "fuzz/numbers.rs"]
 mod numbers;
 #[path = "fuzz/promise.rs"]
 mod promise;
-#[path = "fuzz/rules.rs"]
-mod rules;
 #[path = "fuzz/sheets.rs"]
 mod sheets;
 #[path = "fuzz/smaller.rs"]
 mod smaller;
 
-// What the tests use too.
-#[path = "../../tests/common/memory.rs"]
+// What the host's tests use too.
+#[path = "../../../host/tests/common/memory.rs"]
 mod memory;
-#[path = "../../tests/common/random.rs"]
+#[path = "../../../host/tests/common/random.rs"]
 mod random;
-#[path = "../../tests/common/records.rs"]
-mod records;
 
 use counts::Counts;
 use memory::{Function, Lent, Memory};
@@ -85,7 +80,7 @@ fn compare(function: Function, before: &Memory, memory: &mut Memory) -> Result<u
     let number = function.call(memory);
     promise::kept(function, before, memory, number).map_err(|what| format!("{number}: {what}"))?;
     let mut expected = before.clone();
-    let expected_number = model::call(function, &mut expected);
+    let expected_number = boundary::call(function, &mut expected);
     if number != expected_number {
         return Err(format!(
             "{number} came back, and should be {expected_number}"
