@@ -5,7 +5,10 @@
 
 pub mod facts;
 pub mod methods;
+pub mod presses;
 pub mod samples;
+pub mod scatter;
+pub mod sheets;
 pub mod text;
 pub mod traces;
 
@@ -26,6 +29,15 @@ pub fn files(root: &Path) -> Result<Vec<File>, String> {
     add(
         "crates/step_traces/stdout",
         traces::stdout(&sample_methods)?,
+    );
+    let sheets = sheets::samples()?;
+    add("crates/sheet_loads/stdin", sheets::stdin(&sheets));
+    add("crates/sheet_loads/stdout", sheets::stdout(&sheets)?);
+    let lists = presses::lists()?;
+    add("crates/press_lists/stdin", presses::stdin(&lists));
+    add(
+        "crates/press_lists/stdout",
+        presses::answers::stdout(&lists)?,
     );
     files.extend(samples::files(root)?);
     Ok(files)
