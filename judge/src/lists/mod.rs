@@ -3,6 +3,7 @@
 //! What is plain stands in judge/lists as text, each file with its own explanation; what is made by a rule
 //! is made here.
 
+pub mod decoding;
 pub mod facts;
 pub mod methods;
 pub mod presses;
@@ -25,6 +26,7 @@ pub fn files(root: &Path) -> Result<Vec<File>, String> {
     let facts = fs::read_to_string(&facts).map_err(|what| format!("facts.txt: {what}"))?;
     let sample_methods = methods::samples(&facts)?;
     let mut add = |path: &str, made: Vec<u8>| files.push((path.to_string(), made));
+    add("crates/decoding_vectors/stdin", decoding::stdin()?);
     add("crates/step_traces/stdin", methods::stdin(&sample_methods)?);
     add(
         "crates/step_traces/stdout",
