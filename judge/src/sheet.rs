@@ -94,7 +94,7 @@ impl Sheet {
 
     fn arguments(&mut self, body: Range<usize>) -> Result<(), u32> {
         ask(self.due == Due::ConstantOrArguments, 23)?;
-        ask(body.len() % 4 == 0, 24)?;
+        ask(body.len().is_multiple_of(4), 24)?;
         ask(body.len() / 4 <= self.max_locals, 27)?;
         self.arguments = body;
         self.due = Due::Nothing;

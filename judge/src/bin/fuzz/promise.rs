@@ -165,12 +165,16 @@ fn one_step(function: Function, before: &Memory, after: &Memory, number: u32) ->
     if function == Function::Step {
         return check(after.count() == 0, "count is not 0");
     }
-    let count = before.count();
     check(
-        after.count().checked_sub(1) == Some(count),
+        after.count().checked_sub(1) == Some(before.count()),
         "count did not rise by one",
     )?;
-    let start = (count as usize).saturating_mul(10);
+    logged(before, after, &places)
+}
+
+/// The entry of a granted forward that changed these places.
+fn logged(before: &Memory, after: &Memory, places: &Range<usize>) -> Kept {
+    let start = (before.count() as usize).saturating_mul(10);
     let words = changed(before.log.part(), after.log.part());
     let entry = start..start.saturating_add(10);
     check(
@@ -187,7 +191,7 @@ fn one_step(function: Function, before: &Memory, after: &Memory, number: u32) ->
     check(many <= 6 && (many > 0 || first == 0), "the entry's numbers")?;
     check(first + many <= before.frame(), "places past the frame")?;
     check(
-        within(&places, first..first + many),
+        within(places, first..first + many),
         "a place that is not in the entry",
     )?;
     check(
@@ -265,8 +269,25 @@ fn presses(before: &Memory, after: &Memory, number: u32) -> Kept {
     }
     let (answered, past) = new.split_at(3 * list.len());
     check(past == &old[answered.len()..], "past the last answer")?;
-    // The entries that granted forwards wrote.
-    let (mut count, mut written, mut granted) = (before.count(), 0..0, false);
+    let (count, written, granted) = follow(list, answered, before.count())?;
+    let words = changed(before.log.part(), after.log.part());
+    check(within(&words, written), "another log word was written")?;
+    check(after.count() == count, "count is not what the answers say")?;
+    if granted {
+        return stands(before, after);
+    }
+    check(before.state == after.state, "a refused press wrote state")?;
+    check(before.slots == after.slots, "a refused press wrote slots")
+}
+
+/// Follows a list by its answers: the count after it, the log words that granted forwards wrote, and
+/// whether a press was granted.
+fn follow(
+    list: &[u8],
+    answered: &[u32],
+    mut count: u64,
+) -> Result<(u64, Range<usize>, bool), String> {
+    let (mut written, mut granted) = (0..0, false);
     for (&press, answer) in list.iter().zip(answered.chunks_exact(3)) {
         let allowed = match press {
             0 => matches!(answer[0], 0..=3 | 13 | 14),
@@ -295,12 +316,5 @@ fn presses(before: &Memory, after: &Memory, number: u32) -> Kept {
             count = count.wrapping_add(1);
         }
     }
-    let words = changed(before.log.part(), after.log.part());
-    check(within(&words, written), "another log word was written")?;
-    check(after.count() == count, "count is not what the answers say")?;
-    if granted {
-        return stands(before, after);
-    }
-    check(before.state == after.state, "a refused press wrote state")?;
-    check(before.slots == after.slots, "a refused press wrote slots")
+    Ok((count, written, granted))
 }

@@ -40,51 +40,36 @@ type Results = (u32, [u32; 3]);
 pub fn stdin() -> Result<Vec<u8>, String> {
     let mut lines: Vec<String> = vec![];
     for (code, pc) in instructions::all().into_iter().chain(switches::all()) {
-        lines.push(line(
-            "decode",
-            [pc as u32, 0],
-            decoded(&code, pc),
-            &bytes(&code),
-            code.len(),
-        ));
+        let data = (digits(&code), code.len());
+        lines.push(line("decode", [pc as u32, 0], decoded(&code, pc), data));
     }
     for (code, pc, key) in switches::branches() {
         let branch = decode(&code, pc).map(|switch| switch.chosen(&code, key));
         let branch = branch.map_err(|number| format!("a switch is refused with {number}"))?;
+        let data = (digits(&code), code.len());
         let results = (0, [branch as u32, 0, 0]);
-        lines.push(line(
-            "switch",
-            [pc as u32, key as u32],
-            results,
-            &bytes(&code),
-            code.len(),
-        ));
+        lines.push(line("switch", [pc as u32, key as u32], results, data));
     }
     for (pool, index, opcode) in constants::all() {
-        let data: String = pool
-            .iter()
-            .map(|(kind, word)| format!("{kind:02X}{word:08X}"))
-            .collect();
+        let entry = |(kind, word): &(u8, u32)| format!("{kind:02X}{word:08X}");
+        let data = (pool.iter().map(entry).collect(), pool.len());
         let results = constant(&pool, index as usize, opcode);
-        lines.push(line(
-            "pool",
-            [index, opcode.into()],
-            results,
-            &data,
-            pool.len(),
-        ));
+        lines.push(line("pool", [index, opcode.into()], results, data));
     }
     let mut seen = HashSet::new();
     lines.retain(|line| seen.insert(line.clone()));
     Ok(joined(lines))
 }
 
-fn line(kind: &str, [at, key]: [u32; 2], results: Results, data: &str, count: usize) -> String {
+/// A vector; the last part are its bytes or entries as digits, and how many there are.
+fn line(kind: &str, at: [u32; 2], results: Results, data: (String, usize)) -> String {
+    let ([at, key], (digits, count)) = (at, data);
     let (refusal, [first, second, third]) = results;
-    format!("{kind:6} {at:08X} {key:08X} {refusal:02X} {first:08X} {second:08X} {third:08X} {count:02X} {data:128}")
+    let results = format!("{refusal:02X} {first:08X} {second:08X} {third:08X}");
+    format!("{kind:6} {at:08X} {key:08X} {results} {count:02X} {digits:128}")
 }
 
-fn bytes(code: &[u8]) -> String {
+fn digits(code: &[u8]) -> String {
     code.iter().map(|byte| format!("{byte:02X}")).collect()
 }
 

@@ -9,6 +9,7 @@ pub fn all(samples: &mut Samples) {
     pools_that_reach(samples);
     pools_without_constants(samples);
     longest_pools(samples);
+    last_pools(samples);
 }
 
 /// Slots beyond the frame stay.
@@ -162,6 +163,10 @@ fn longest_pools(samples: &mut Samples) {
             pool(samples, name, 26, lengths, constant);
         }
     }
+}
+
+/// Pools that just reach, and both memories too short.
+fn last_pools(samples: &mut Samples) {
     pool(samples, "long_at_65533", GOOD, (65535, 65535), "long 65533");
     pool(samples, "int_at_65534", GOOD, (65535, 65535), "int 65534");
     pool(samples, "int_at_1", GOOD, (65536, 65536), "int 1");

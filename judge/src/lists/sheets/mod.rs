@@ -160,9 +160,11 @@ pub fn samples() -> Result<Samples, String> {
     wrong_bytes::all(&mut samples);
     wrong_records::all(&mut samples);
     right_records::good_constants(&mut samples);
+    right_records::many_constants(&mut samples);
     right_records::argument_counts(&mut samples);
     lent_memory::all(&mut samples);
     right_records::codes(&mut samples);
+    right_records::largest_records(&mut samples);
     wrong_records::bytes_after(&mut samples);
     two_refusals::all(&mut samples)?;
     let mut names = HashSet::new();

@@ -63,6 +63,10 @@ pub fn good_constants(samples: &mut Samples) {
             good(&format!("of_{value}"), format!("{kind} 2 {value}"), 12);
         }
     }
+}
+
+/// Constants at the last indices, and as many as a sheet of the program holds.
+pub fn many_constants(samples: &mut Samples) {
     let text = "LM; CD; long 2 0102030405060708; AR";
     let low_first = samples
         .add("long_low_word_first", GOOD, text)
@@ -148,15 +152,19 @@ pub fn argument_counts(samples: &mut Samples) {
     samples.add("arguments_300", GOOD, &text).slots(300);
 }
 
-/// Codes of one byte, of the most bytes, and of bytes that look like something else.
+/// Bytes without a meaning.
+fn any_code(length: u64) -> Vec<u8> {
+    (0..length).map(|k| (k * k / 7 + k) as u8).collect()
+}
+
+fn int_at_1() -> Vec<u8> {
+    constant(1, 3, &[0, 0, 0, 0x2A])
+}
+
+/// Codes of one byte, of more, and of bytes that look like something else.
 pub fn codes(samples: &mut Samples) {
-    let largest: Vec<u8> = (0..65_535_u64).map(|k| (k * k / 7 + k) as u8).collect();
     let code = |bytes: &[u8]| record(b"CD", bytes);
-    let (lm, ki, ar) = (
-        sizes(2, 3),
-        constant(1, 3, &[0, 0, 0, 0x2A]),
-        arguments(&[5, 6]),
-    );
+    let (lm, ki, ar) = (sizes(2, 3), int_at_1(), arguments(&[5, 6]));
     samples.add("code_of_one_byte", GOOD, "LM; code B1; AR");
     samples.add(
         "code_of_one_byte_with_constants",
@@ -164,7 +172,7 @@ pub fn codes(samples: &mut Samples) {
         "LM; code 00; KI; AR",
     );
     for length in [255, 256, 257, 1000] {
-        let sheet = [&lm[..], &code(&largest[..length]), &ki, &ar].concat();
+        let sheet = [&lm[..], &code(&any_code(length)), &ki, &ar].concat();
         samples.add_sheet(format!("code_of_{length}_bytes"), GOOD, sheet);
     }
     samples.add("code_of_no_known_opcodes", GOOD, "LM; code FF FE BA CA; AR");
@@ -173,11 +181,17 @@ pub fn codes(samples: &mut Samples) {
     samples.add_sheet("code_that_looks_like_records", GOOD, sheet);
     let sheet = [&lm[..], &code(&arguments(&[])), &arguments(&[])].concat();
     samples.add_sheet("code_equal_to_AR", GOOD, sheet);
-    let whole = [&lm[..], &code(&largest)].concat();
+}
+
+/// Codes of 65,535 bytes, and arguments that nearly fill a record.
+pub fn largest_records(samples: &mut Samples) {
+    let (largest, ki, ar) = (any_code(65_535), int_at_1(), arguments(&[5, 6]));
+    let lm = sizes(2, 3);
+    let whole = [&lm[..], &record(b"CD", &largest)].concat();
     samples.add_sheet("code_largest", GOOD, [&whole[..], &ar].concat());
     let reversed: Vec<u8> = largest.iter().rev().copied().collect();
     let long = constant(65534, 5, &0x0123_4567_89AB_CDEF_u64.to_be_bytes());
-    let sheet = [&lm[..], &code(&reversed), &ki, &long, &ar].concat();
+    let sheet = [&lm[..], &record(b"CD", &reversed), &ki, &long, &ar].concat();
     samples
         .add_sheet("code_largest_with_constants", GOOD, sheet)
         .pool(65536);

@@ -7,10 +7,13 @@ use super::Samples;
 pub fn all(samples: &mut Samples) {
     cut_records(samples);
     unknown_marks(samples);
+    nearly_right_marks(samples);
     wrong_orders(samples);
+    missing_records(samples);
     wrong_lengths(samples);
     wrong_tags(samples);
     wrong_indices(samples);
+    last_indices(samples);
 }
 
 /// 21: fewer than four bytes, or a body that ends too late, under known and unknown marks.
@@ -54,6 +57,10 @@ fn unknown_marks(samples: &mut Samples) {
             );
         }
     }
+}
+
+/// 22: marks that are nearly right.
+fn nearly_right_marks(samples: &mut Samples) {
     let marks: [(&str, &[&str], &str, &str); 4] = [
         (
             "LM",
@@ -86,7 +93,7 @@ fn unknown_marks(samples: &mut Samples) {
     }
 }
 
-/// 23: of a record, and at the end.
+/// 23: a record at a wrong place.
 fn wrong_orders(samples: &mut Samples) {
     let places: [(&str, &str, &[&str]); 6] = [
         ("first", "", &["CD", "KI", "AR"]),
@@ -120,6 +127,10 @@ fn wrong_orders(samples: &mut Samples) {
             );
         }
     }
+}
+
+/// 23: records that are missing, and at the end.
+fn missing_records(samples: &mut Samples) {
     for (name, text) in [
         ("without_LM", "CD; KI; AR"),
         ("without_CD", "LM; KI; AR"),
@@ -208,7 +219,7 @@ fn wrong_tags(samples: &mut Samples) {
     );
 }
 
-/// 25: indices that are 0, used, below one that is used, or too high for a long.
+/// 25: indices that are 0, used, or below one that is used.
 fn wrong_indices(samples: &mut Samples) {
     for kind in ["int", "float", "long", "double"] {
         let mut wrong = |name: &str, constants: String, pool: usize| {
@@ -236,6 +247,10 @@ fn wrong_indices(samples: &mut Samples) {
             12,
         );
     }
+}
+
+/// 25: indices at the end of 16 bits.
+fn last_indices(samples: &mut Samples) {
     for (name, constants, pool) in [
         ("long_at_65535", "long 65535", 65536),
         ("double_at_65535", "double 65535", 65536),
