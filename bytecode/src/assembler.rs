@@ -92,8 +92,9 @@ fn encode_with(code: &mut Vec<u8>, item: &[&str], distance: &Distance) -> Result
             let entry = of_name(name).ok_or("no such instruction")?;
             code.push(entry.opcode);
             match entry.operands {
-                Operands::TableSwitch => table_switch(code, words, pc, distance)?,
-                Operands::LookupSwitch => lookup_switch(code, words, pc, distance)?,
+                Operands::TableSwitch | Operands::LookupSwitch => {
+                    switch(code, entry.operands, words, distance)?;
+                }
                 Operands::Wide => wide(code, words)?,
                 Operands::Branch | Operands::LongBranch => {
                     let [target] = words else {
@@ -137,55 +138,38 @@ fn wide(code: &mut Vec<u8>, words: &[&str]) -> Result<(), String> {
     numbers(code, operands, rest)
 }
 
-/// The entries of a switch, and the target of its default; the bytes before its operands are written.
-fn entries<'a, 'b>(
+/// The bytes up to the next multiple of 4, the fixed fields and the table.
+fn switch(
     code: &mut Vec<u8>,
-    words: &'a [&'b str],
-    pc: usize,
-) -> Result<(&'a [&'b str], &'b str), String> {
+    operands: Operands,
+    words: &[&str],
+    distance: &Distance,
+) -> Result<(), String> {
+    let pc = code.len() - 1;
+    let [entries @ .., "default", default] = words else {
+        return Err("a switch ends in its default".to_string());
+    };
+    let mut fields = vec![distance(default, pc)?];
+    if operands == Operands::TableSwitch {
+        let (low, targets) = entries.split_first().ok_or("what is the lowest index?")?;
+        let low = number(low)?;
+        fields.extend([low, low + targets.len() as i64 - 1]);
+        for target in targets {
+            fields.push(distance(target, pc)?);
+        }
+    } else {
+        fields.push(entries.len() as i64 / 2);
+        for pair in entries.chunks(2) {
+            let [key, target] = pair else {
+                return Err("each key has a target".to_string());
+            };
+            fields.extend([number(key)?, distance(target, pc)?]);
+        }
+    }
     code.resize(switch_operands(pc), 0);
-    match words {
-        [entries @ .., "default", target] => Ok((entries, target)),
-        _ => Err("a switch ends in its default".to_string()),
-    }
-}
-
-fn table_switch(
-    code: &mut Vec<u8>,
-    words: &[&str],
-    pc: usize,
-    distance: &Distance,
-) -> Result<(), String> {
-    let (entries, default) = entries(code, words, pc)?;
-    let (low, targets) = entries.split_first().ok_or("what is the lowest index?")?;
-    let low = number(low)?;
-    let fields = [distance(default, pc)?, low, low + targets.len() as i64 - 1];
-    for field in fields {
-        put(code, 4, field, true)?;
-    }
-    for target in targets {
-        put(code, 4, distance(target, pc)?, true)?;
-    }
-    Ok(())
-}
-
-fn lookup_switch(
-    code: &mut Vec<u8>,
-    words: &[&str],
-    pc: usize,
-    distance: &Distance,
-) -> Result<(), String> {
-    let (entries, default) = entries(code, words, pc)?;
-    if entries.len() % 2 != 0 {
-        return Err("each key has a target".to_string());
-    }
-    put(code, 4, distance(default, pc)?, true)?;
-    put(code, 4, entries.len() as i64 / 2, true)?;
-    for pair in entries.chunks_exact(2) {
-        put(code, 4, number(pair[0])?, true)?;
-        put(code, 4, distance(pair[1], pc)?, true)?;
-    }
-    Ok(())
+    fields
+        .into_iter()
+        .try_for_each(|field| put(code, 4, field, true))
 }
 
 fn number(word: &str) -> Result<i64, String> {

@@ -78,8 +78,8 @@ fn sheet_of_method(lines: &[&str], listing: &[&str]) -> Result<Vec<u8>, String> 
     Ok([sizes, code, constants, records::arguments(&arguments)].concat())
 }
 
-/// The record of a constant.
-fn constant(index: &str, kind: &str, value: &str) -> Result<Vec<u8>, String> {
+/// The record of a constant, from its index, its kind and its value.
+pub fn constant(index: &str, kind: &str, value: &str) -> Result<Vec<u8>, String> {
     let kind = kind_of(kind)?;
     let bits = kind.bits(value)?.to_be_bytes();
     let value = &bits[8 - 4 * kind.size()..];

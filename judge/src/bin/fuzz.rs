@@ -253,24 +253,30 @@ impl Fuzz {
     }
 }
 
-fn main() -> ExitCode {
-    let mut fuzz = Fuzz {
-        counts: Counts::new(),
-        bare: false,
-        trace: false,
-    };
+/// The numbers of the command line, with `bare` and `trace` put into the fuzz. None where there is anything else.
+fn arguments(fuzz: &mut Fuzz) -> Option<Vec<u64>> {
     let mut numbers = vec![];
     for argument in env::args().skip(1) {
         match (argument.as_str(), argument.parse()) {
             ("bare", _) => fuzz.bare = true,
             ("trace", _) => fuzz.trace = true,
             (_, Ok(number)) if numbers.len() < 3 => numbers.push(number),
-            _ => {
-                eprintln!("usage: fuzz [SEED [CALLS [CASE]]] [bare] [trace]");
-                return ExitCode::from(2);
-            }
+            _ => return None,
         }
     }
+    Some(numbers)
+}
+
+fn main() -> ExitCode {
+    let mut fuzz = Fuzz {
+        counts: Counts::new(),
+        bare: false,
+        trace: false,
+    };
+    let Some(numbers) = arguments(&mut fuzz) else {
+        eprintln!("usage: fuzz [SEED [CALLS [CASE]]] [bare] [trace]");
+        return ExitCode::from(2);
+    };
     let number = |place: usize, default: u64| numbers.get(place).copied().unwrap_or(default);
     let (seed, calls, first) = (number(0, SEED), number(1, CALLS), number(2, 0));
     let start = Instant::now();

@@ -5,15 +5,15 @@ use super::File;
 use crate::printed_walk::printed;
 use bytecode::source;
 use std::fs;
+use std::io;
 use std::path::Path;
 
 /// The names of the files of a folder, in order.
-fn names(folder: &Path) -> Result<Vec<String>, String> {
-    let entries = fs::read_dir(folder).map_err(|what| format!("{}: {what}", folder.display()))?;
-    let names = entries.map(|entry| Ok(entry.map_err(|what| what.to_string())?.file_name()));
-    let names =
-        names.map(|name| name.map(|name: std::ffi::OsString| name.to_string_lossy().into_owned()));
-    let mut names = names.collect::<Result<Vec<_>, String>>()?;
+fn names(folder: &Path) -> io::Result<Vec<String>> {
+    let mut names = vec![];
+    for entry in fs::read_dir(folder)? {
+        names.push(entry?.file_name().to_string_lossy().into_owned());
+    }
     names.sort();
     Ok(names)
 }
@@ -21,7 +21,7 @@ fn names(folder: &Path) -> Result<Vec<String>, String> {
 /// The files of the sources. A file without a source is an error.
 pub fn files(root: &Path) -> Result<Vec<File>, String> {
     let (folder, mut files) = (root.join("samples"), vec![]);
-    let names = names(&folder)?;
+    let names = names(&folder).map_err(|what| format!("samples: {what}"))?;
     for name in names.iter().filter_map(|name| name.strip_suffix(".txt")) {
         let path = folder.join(format!("{name}.txt"));
         let text = fs::read_to_string(&path).map_err(|what| what.to_string());

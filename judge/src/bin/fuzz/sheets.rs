@@ -41,8 +41,19 @@ fn built(random: &mut Random, large: bool) -> Vec<u8> {
     };
     code.truncate(65_535);
     sheet.extend(record(b"CD", &code));
+    sheet.extend(constants(random, shape.kinds, large));
+    let many = match random.below(12) {
+        0 => random.around(max_locals),
+        _ => random.below(max_locals + 1),
+    };
+    sheet.extend(arguments(&random.words(many.min(16_383))));
+    sheet
+}
+
+/// Constants of these kinds, whose indices are seldom wrong.
+fn constants(random: &mut Random, mut kinds: Vec<u8>, large: bool) -> Vec<u8> {
+    let mut records = vec![];
     let mut index = 1 - usize::from(random.once_in(24)) + random.below(2);
-    let mut kinds = shape.kinds;
     if large && random.once_in(16) {
         let many = random.below(50_000);
         kinds = (0..many).map(|_| random.pick(&[3, 4, 5, 6])).collect();
@@ -51,7 +62,7 @@ fn built(random: &mut Random, large: bool) -> Vec<u8> {
         let long = matches!(kind, 5 | 6);
         let many = 1 + usize::from(long);
         let value: Vec<_> = (0..many).map(|_| random.word().to_be_bytes()).collect();
-        sheet.extend(constant(index as u16, kind, value.as_flattened()));
+        records.extend(constant(index as u16, kind, value.as_flattened()));
         index += many;
         if kinds.len() > 8 {
             continue;
@@ -64,12 +75,7 @@ fn built(random: &mut Random, large: bool) -> Vec<u8> {
             _ => {}
         }
     }
-    let many = match random.below(12) {
-        0 => random.around(max_locals),
-        _ => random.below(max_locals + 1),
-    };
-    sheet.extend(arguments(&random.words(many.min(16_383))));
-    sheet
+    records
 }
 
 /// Where the records begin, as far as their lengths lead, and the end.

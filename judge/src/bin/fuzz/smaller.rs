@@ -35,17 +35,6 @@ fn smaller(function: Function, memory: &Memory) -> Option<(Memory, String)> {
     if found.is_some() || memory.budget > BUDGET {
         return found;
     }
-    let with_code = |code: Vec<u8>| Memory {
-        sheet: memory.sheet.with(&code),
-        code: 0..code.len(),
-        ..memory.clone()
-    };
-    let (sheet, code) = (memory.sheet.part(), memory.code());
-    let alone = (code.len() < sheet.len()).then(|| code.to_vec());
-    let codes: Vec<Vec<u8>> = match function {
-        Function::Load => simpler(sheet).collect(),
-        _ => alone.into_iter().chain(simpler(code)).collect(),
-    };
     macro_rules! part {
         ($name:ident) => {
             simpler(memory.$name.part()).map(|part| Memory {
@@ -54,9 +43,8 @@ fn smaller(function: Function, memory: &Memory) -> Option<(Memory, String)> {
             })
         };
     }
-    codes
+    with_simpler_code(function, memory)
         .into_iter()
-        .map(with_code)
         .chain(part!(presses))
         .chain(part!(log))
         .chain(part!(slots))
@@ -66,6 +54,22 @@ fn smaller(function: Function, memory: &Memory) -> Option<(Memory, String)> {
         .chain(part!(answer))
         .chain(part!(answers))
         .find_map(still_wrong)
+}
+
+/// The memory with its code alone, and with a simpler code or sheet.
+fn with_simpler_code(function: Function, memory: &Memory) -> Vec<Memory> {
+    let (sheet, code) = (memory.sheet.part(), memory.code());
+    let alone = (code.len() < sheet.len()).then(|| code.to_vec());
+    let codes: Vec<Vec<u8>> = match function {
+        Function::Load => simpler(sheet).collect(),
+        _ => alone.into_iter().chain(simpler(code)).collect(),
+    };
+    let with_code = |code: Vec<u8>| Memory {
+        sheet: memory.sheet.with(&code),
+        code: 0..code.len(),
+        ..memory.clone()
+    };
+    codes.into_iter().map(with_code).collect()
 }
 
 /// The part without its second half or its last element, then with one element less that is not 0.

@@ -2,11 +2,10 @@
 
 use super::Begin;
 use crate::answers::Answer;
-use crate::lists::text::{about, code, number, rows, Settings};
+use crate::lists::text::{about, code, rows, Settings};
 use crate::sheet::load;
 use crate::step::{run, Method, State};
-use bytecode::records;
-use bytecode::values::Kind;
+use bytecode::{records, source};
 
 /// The most steps that are taken to see how a method ends.
 const MOST_STEPS: u64 = 130;
@@ -160,12 +159,9 @@ fn read(row: &[&str]) -> Result<Pressed, String> {
 
 /// The records of constants, each an index, a kind and a value.
 fn constants(words: &[&str]) -> Result<Vec<u8>, String> {
-    let mut found = vec![];
-    for constant in words.chunks_exact(3) {
-        let kind = Kind::of_name(constant[1]).ok_or("no such kind")?;
-        let value = kind.bits(constant[2])?.to_be_bytes();
-        let value = &value[8 - 4 * kind.size()..];
-        found.extend(records::constant(number(constant[0])?, kind.tag(), value));
-    }
-    Ok(found)
+    let records = words.chunks(3).map(|words| match words {
+        [index, kind, value] => source::constant(index, kind, value),
+        _ => Err("a constant has an index, a kind and a value".to_string()),
+    });
+    Ok(records.collect::<Result<Vec<_>, _>>()?.concat())
 }
