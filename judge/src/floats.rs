@@ -1,5 +1,5 @@
 //! What is worked out by hand of floats and doubles. Sums, products, quotients and the other
-//! conversions are the processor's: exact arithmetic judges those (tools/vectors/arithmetic.py).
+//! conversions are the processor's; the vectors of exact arithmetic judge those (tests/arithmetic.rs).
 
 /// The bits of a float; every NaN that is made is the fixed one.
 pub fn float_bits(value: f32) -> u32 {
