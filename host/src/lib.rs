@@ -4,7 +4,8 @@
 //! - [`load`], [`step`], [`forward`], [`back`], [`run`] and [`presses`] are the library's functions
 //!   on lent slices.
 //! - [`Walk`] owns the memory that they need.
-//! - [`mnemonics`] shows instructions by name.
+//! - [`mnemonics`] shows instructions by name, [`assembler`] and [`source`] make code and sheets of
+//!   them.
 //!
 //! No function here has a precondition. A state of one sheet with the memory of another, slices of
 //! any length and words of any value are met by an answer: a refusal or a step, never undefined
@@ -35,7 +36,6 @@
 
 mod answers;
 mod calls;
-pub mod mnemonics;
 mod refusal;
 mod room;
 mod version;
@@ -46,6 +46,8 @@ mod walk;
 #[doc(hidden)]
 #[allow(unsafe_code)]
 pub mod ffi;
+
+pub use bytecode::{assembler, instructions, mnemonics, records, source, values};
 
 pub use answers::{Answer, End, Ran, Value};
 pub use calls::{back, forward, load, presses, run, step};

@@ -1,7 +1,8 @@
 //! A walk that owns its memory, for programs.
 
 use crate::room::Room;
-use crate::{calls, mnemonics, Answer, Parts, Ran, Refusal, State, LOG_WORDS};
+use crate::{calls, Answer, Parts, Ran, Refusal, State, LOG_WORDS};
+use bytecode::mnemonics;
 use std::ops::Range;
 
 /// How many entries a log that grows has after its first step.

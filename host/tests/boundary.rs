@@ -6,8 +6,8 @@
 mod common;
 
 use common::memory::{Lent, Memory};
-use common::records::{arguments, constant, record, sizes};
 use common::{sheet, Lengths, ENOUGH};
+use workbook_host::records::{arguments, constant, record, sizes};
 
 /// ICONST_3, ICONST_4, IADD, IRETURN.
 const ADDS: [u8; 4] = [0x06, 0x07, 0x60, 0xAC];

@@ -5,6 +5,7 @@ mod common;
 
 use common::random::Random;
 use std::collections::HashSet;
+use workbook_host::assembler::assemble;
 use workbook_host::mnemonics::instruction;
 use workbook_host::{step, Answer, Parts, State};
 
@@ -191,6 +192,20 @@ const TABLE: [(&[u8], &str); 164] = [
 fn each_instruction_has_its_text() {
     for (code, text) in TABLE {
         assert_eq!(instruction(code, 0), text);
+    }
+}
+
+/// At offset 0 a target is its distance. The texts of switches are no listings.
+#[test]
+fn the_assembler_gives_the_bytes_of_each_text() {
+    for (code, text) in TABLE.into_iter().filter(|(_, text)| !text.contains(':')) {
+        let listing = match text.split_once(' ') {
+            Some((name, target)) if name.starts_with("if") || name.starts_with("goto") => {
+                format!("{name} {:+}", target.parse::<i64>().unwrap())
+            }
+            _ => text.to_string(),
+        };
+        assert_eq!(assemble(&listing), Ok(code.to_vec()), "{text}");
     }
 }
 

@@ -4,8 +4,8 @@
 mod common;
 
 use common::memory::Lent;
-use common::records::{arguments, constant, record, sizes};
 use common::{refused, sheet, Lesson};
+use workbook_host::records::{arguments, constant, record, sizes};
 use workbook_host::{Answer, Press, Refusal, Value, Walk};
 
 /// What the last of some forward presses is answered.

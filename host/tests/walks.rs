@@ -3,8 +3,8 @@
 
 mod common;
 
-use common::records::{arguments, constant, record, sizes};
 use common::{accepted_samples, refused, sample, samples, sheet};
+use workbook_host::records::{arguments, constant, record, sizes};
 use workbook_host::{load, Answer, End, Refusal, State, Value, Walk};
 
 #[test]

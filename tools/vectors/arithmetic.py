@@ -19,9 +19,8 @@ The results are computed here, exactly, on whole numbers and fractions: JVMS 2.8
 to the nearest value, and to the even one of two that are as near. No floating-point arithmetic of Python or of the machine is used.
 A NaN that an operation or a conversion gives is 7FC00000 or 7FF8000000000000.
 """
+import sys
 from fractions import Fraction
-
-import command
 
 
 # Whole numbers: bits, and the number that they mean in two's complement.
@@ -503,5 +502,19 @@ def vectors():
     return ''.join(lines)
 
 
+def run(given):
+    """Writes the file asked for, or with --check compares it; else shows the usage."""
+    *check, path = given or ['-']
+    if check not in ([], ['--check']) or path.startswith('-'):
+        sys.exit(__doc__)
+    if not check:
+        with open(path, 'w', encoding='ascii', newline='\n') as file:
+            file.write(vectors())
+        return
+    with open(path, encoding='ascii', newline='') as file:
+        if file.read() != vectors():
+            sys.exit(f'{path}: not what tools/vectors/arithmetic.py writes')
+
+
 if __name__ == '__main__':
-    command.run(__doc__, vectors)
+    run(sys.argv[1:])

@@ -1,4 +1,4 @@
-// The fields of a line. tools/vectors/decoding.py says how a line is laid out.
+// The fields of a line. judge/src/lists/decoding says how a line is laid out.
 ghost use Prim.Native.Nat.{_≤_};
 
 // A line, its line feed included.

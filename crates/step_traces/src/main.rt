@@ -1,5 +1,5 @@
 // Walks sample methods from standard input step by step, runs them, and prints what each step and each run comes to.
-// tools/vectors/methods.py writes the samples and says how a line is laid out; tools/vectors/tracing.py writes what must be printed.
+// judge/src/lists/methods.rs writes the samples and says how a line is laid out; judge/src/lists/traces.rs writes what must be printed.
 mod fields;
 mod results;
 mod walking;

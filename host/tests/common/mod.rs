@@ -3,16 +3,15 @@
 // Each test program has its own copy and uses a part of it.
 #![allow(dead_code)]
 
-// The fuzz program has these three too.
+// The judge's fuzz program has these two too.
 pub mod memory;
 pub mod random;
-pub mod records;
 
 use memory::{Function, Lent, Memory, GUARD};
-use records::{arguments, record, sizes};
 use std::fmt::{Display, UpperHex};
 use std::fs;
 use std::path::{Path, PathBuf};
+use workbook_host::records::{arguments, record, sizes};
 use workbook_host::{Answer, Parts, Press, Ran, Refusal, State};
 
 /// A sample: its sheet, and what `walksheet` prints of it.

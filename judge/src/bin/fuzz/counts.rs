@@ -1,0 +1,83 @@
+//! What was called how often.
+
+use super::memory::{Function, Memory};
+use judge::shapes::places;
+
+/// Numbers that come back are below this.
+const NUMBERS: usize = 128;
+
+/// The calls made so far.
+pub struct Counts {
+    pub calls: u64,
+    /// By function and by number; the last are the answers to the presses of lists.
+    numbers: [[u64; NUMBERS]; 7],
+    /// Ordinary steps, returns and exceptions of steps and forwards, by opcode.
+    opcodes: [u64; 256],
+    /// Steps that runs have reported.
+    run_steps: u64,
+    /// How often back took forwards back, a list was its presses, a run was its steps.
+    pub walks: u64,
+    pub lists: u64,
+    pub runs: u64,
+}
+
+impl Counts {
+    pub fn new() -> Counts {
+        Counts {
+            calls: 0,
+            numbers: [[0; NUMBERS]; 7],
+            opcodes: [0; 256],
+            run_steps: 0,
+            walks: 0,
+            lists: 0,
+            runs: 0,
+        }
+    }
+
+    /// Counts a call that went right.
+    pub fn add(&mut self, function: Function, before: &Memory, after: &Memory, number: u32) {
+        self.calls += 1;
+        self.numbers[function as usize][number as usize] += 1;
+        let one = matches!(function, Function::Step | Function::Forward);
+        if one && matches!(number, 0 | 101..) {
+            let opcode = before.code()[before.state_word(2) as usize];
+            self.opcodes[usize::from(opcode)] += 1;
+        }
+        if function == Function::Presses && number == 0 {
+            let answers = after.answers.part().chunks_exact(3);
+            for answer in answers.take(after.presses.len()) {
+                self.numbers[6][answer[0] as usize] += 1;
+            }
+        }
+        if function == Function::Run && number > 3 {
+            let [low, high] = [2, 3].map(|place| u64::from(after.answer.part()[place]));
+            self.run_steps += low | high << 32;
+        }
+    }
+
+    /// Prints how often each number came back.
+    pub fn print(&self) {
+        let columns = Function::ALL.map(|function| format!("{function:?}").to_lowercase());
+        let names = columns.map(|name| format!(" {name:>9}")).concat();
+        println!("number{names}  in lists");
+        let line = |name: &str, counts: [u64; 7]| {
+            let numbers = counts.map(|count| format!(" {count:9}")).concat();
+            println!("{name:6}{numbers}");
+        };
+        for number in 0..NUMBERS {
+            let counts = self.numbers.map(|counts| counts[number]);
+            if counts != [0; 7] {
+                line(&number.to_string(), counts);
+            }
+        }
+        line("all", self.numbers.map(|counts| counts.iter().sum()));
+        let core = (0..=255).filter(|opcode| places(*opcode).is_some());
+        let met = core.map(|opcode| self.opcodes[usize::from(opcode)]);
+        let (many, least) = (met.clone().filter(|count| *count > 0).count(), met.min());
+        let least = least.unwrap_or(0);
+        println!("{many} opcodes stepped over or ended in, the rarest {least} times");
+        println!("{} steps in runs", self.run_steps);
+        let (walks, lists, runs) = (self.walks, self.lists, self.runs);
+        println!("{walks} walks there and back, {lists} lists and {runs} runs one by one");
+    }
+}

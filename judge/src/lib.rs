@@ -1,0 +1,28 @@
+//! One model of what the papers say: the load, the step, the run, forward and back, the list of
+//! presses, the plain walk and the printed walk. It is written from the rules and the Java Virtual
+//! Machine Specification (JVMS), and nothing in it is taken from crates/, so that one mistake is not
+//! made twice.
+//!
+//! - [`decode`], [`shapes`], [`operations`], [`floats`] and [`step`]: the questions of a step, the 164
+//!   instructions, the step and the run.
+//! - [`history`] and [`plain_walk`]: forward and back with their log, and the walk without one.
+//! - [`sheet`]: the load.
+//! - [`printed_walk`]: the text of a walk.
+//! - [`lists`]: the inputs and the expected outputs of the programs of crates/, and the samples.
+//!
+//! The program `lists` writes the lists or checks them; the program `fuzz` holds the exported
+//! library against the model, on hostile memory.
+
+#![forbid(unsafe_code)]
+
+pub mod answers;
+pub mod decode;
+pub mod floats;
+pub mod history;
+pub mod lists;
+pub mod operations;
+pub mod plain_walk;
+pub mod printed_walk;
+pub mod shapes;
+pub mod sheet;
+pub mod step;

@@ -1,0 +1,145 @@
+//! The load: a sheet record by record, by the questions of docs/RULES.md.
+
+use crate::answers::ask;
+use crate::step::State;
+use std::ops::Range;
+
+/// What stands in a sheet.
+#[derive(Clone, Debug, Default)]
+pub struct Sheet {
+    /// Places of the operand stack.
+    pub max_stack: usize,
+    /// Locals.
+    pub max_locals: usize,
+    /// Where the code lies.
+    pub code: Range<usize>,
+    /// Index, tag, and where the value lies.
+    constants: Vec<(usize, u8, Range<usize>)>,
+    arguments: Range<usize>,
+    /// How long a pool has to be.
+    pub reach: usize,
+    due: Due,
+}
+
+/// The record that has to come.
+#[derive(Clone, Copy, Debug, Default, PartialEq, Eq)]
+enum Due {
+    #[default]
+    Limits,
+    Code,
+    ConstantOrArguments,
+    Nothing,
+}
+
+fn short(sheet: &[u8], at: usize) -> usize {
+    usize::from(sheet[at]) << 8 | usize::from(sheet[at + 1])
+}
+
+fn word(sheet: &[u8], at: usize) -> u32 {
+    let bytes = sheet[at..at + 4].try_into().expect("four bytes");
+    u32::from_be_bytes(bytes)
+}
+
+/// Reads a sheet, up to its end: all questions but those of the lent memory.
+pub fn read(sheet: &[u8]) -> Result<Sheet, u32> {
+    let (mut read, mut at) = (Sheet::default(), 0);
+    while at < sheet.len() {
+        ask(sheet.len() - at >= 4, 21)?;
+        let body = at + 4..at + 4 + short(sheet, at + 2);
+        ask(body.end <= sheet.len(), 21)?;
+        let next = body.end;
+        match &sheet[at..at + 2] {
+            b"LM" => read.limits(sheet, body)?,
+            b"CD" => read.code(body)?,
+            b"KI" => read.constant(sheet, body)?,
+            b"AR" => read.arguments(body)?,
+            _ => return Err(22),
+        }
+        at = next;
+    }
+    ask(read.due == Due::Nothing, 23)?;
+    Ok(read)
+}
+
+impl Sheet {
+    fn limits(&mut self, sheet: &[u8], body: Range<usize>) -> Result<(), u32> {
+        ask(self.due == Due::Limits, 23)?;
+        ask(body.len() == 4, 24)?;
+        self.max_stack = short(sheet, body.start);
+        self.max_locals = short(sheet, body.start + 2);
+        self.due = Due::Code;
+        Ok(())
+    }
+
+    fn code(&mut self, body: Range<usize>) -> Result<(), u32> {
+        ask(self.due == Due::Code, 23)?;
+        ask(!body.is_empty(), 24)?;
+        self.code = body;
+        self.due = Due::ConstantOrArguments;
+        Ok(())
+    }
+
+    fn constant(&mut self, sheet: &[u8], body: Range<usize>) -> Result<(), u32> {
+        ask(self.due == Due::ConstantOrArguments, 23)?;
+        ask(body.len() == 7 || body.len() == 11, 24)?;
+        let (index, tag) = (short(sheet, body.start), sheet[body.start + 2]);
+        let long = body.len() == 11;
+        ask(matches!((long, tag), (false, 3 | 4) | (true, 5 | 6)), 25)?;
+        let last = index + usize::from(long);
+        ask(index > 0 && index >= self.reach && last <= 65_535, 25)?;
+        self.reach = last + 1;
+        self.constants.push((index, tag, body.start + 3..body.end));
+        Ok(())
+    }
+
+    fn arguments(&mut self, body: Range<usize>) -> Result<(), u32> {
+        ask(self.due == Due::ConstantOrArguments, 23)?;
+        ask(body.len().is_multiple_of(4), 24)?;
+        ask(body.len() / 4 <= self.max_locals, 27)?;
+        self.arguments = body;
+        self.due = Due::Nothing;
+        Ok(())
+    }
+
+    /// The state that a load gives.
+    fn state(&self) -> State {
+        State {
+            max_stack: self.max_stack as u32,
+            max_locals: self.max_locals as u32,
+            ..State::default()
+        }
+    }
+}
+
+/// Loads a sheet: fills what is lent, and gives the state and where the code lies. A refused load
+/// writes nothing.
+pub fn load(
+    sheet: &[u8],
+    slots: &mut [u32],
+    kinds: &mut [u8],
+    words: &mut [u32],
+) -> Result<(State, Range<usize>), u32> {
+    let read = read(sheet)?;
+    let state = read.state();
+    let reaches = slots.len() >= state.frame() && kinds.len() >= read.reach;
+    ask(
+        reaches && kinds.len() == words.len() && kinds.len() <= 65_536,
+        26,
+    )?;
+    kinds.fill(0);
+    words.fill(0);
+    for (index, tag, value) in read.constants {
+        kinds[index] = tag;
+        // The low word comes last in the sheet.
+        words[index] = word(sheet, value.end - 4);
+        if value.len() == 8 {
+            words[index + 1] = word(sheet, value.start);
+        }
+    }
+    let frame = &mut slots[..state.frame()];
+    frame.fill(0);
+    for (slot, at) in frame.iter_mut().zip(read.arguments.step_by(4)) {
+        *slot = word(sheet, at);
+    }
+    Ok((state, read.code))
+}

@@ -1,0 +1,78 @@
+//! The model against what docs/RULES.md says by example.
+#![forbid(unsafe_code)]
+
+use bytecode::assembler::assemble;
+use bytecode::instructions::switch_operands;
+use bytecode::values::bytes;
+use judge::answers::Answer;
+use judge::printed_walk::printed;
+use judge::step::{step, Method, State};
+
+/// The words that one instruction leaves of these on the stack.
+fn left(instruction: &str, stack: &[u32]) -> Vec<u32> {
+    let code = assemble(&format!("{instruction}; return")).unwrap();
+    let method = Method {
+        code: &code,
+        kinds: &[],
+        words: &[],
+    };
+    let mut slots = [stack, &[0; 6]].concat();
+    let mut state = State {
+        max_stack: slots.len() as u32,
+        depth: stack.len() as u32,
+        ..State::default()
+    };
+    assert_eq!(step(&method, &mut slots, &mut state), Answer::GRANTED);
+    slots.truncate(state.depth as usize);
+    slots
+}
+
+#[test]
+fn the_marked_examples() {
+    let examples: [(&str, &[u32], &[u32]); 13] = [
+        ("idiv", &[0x8000_0000, 0xFFFF_FFFF], &[0x8000_0000]),
+        ("irem", &[0x8000_0000, 0xFFFF_FFFF], &[0]),
+        ("lcmp", &[0, 0x8000_0000, 1, 0], &[0xFFFF_FFFF]),
+        ("f2i", &[0x4F00_0000], &[0x7FFF_FFFF]),
+        ("f2i", &[0x7FC0_0000], &[0]),
+        ("i2f", &[16_777_217], &[0x4B80_0000]),
+        ("i2f", &[16_777_219], &[0x4B80_0002]),
+        ("l2d", &[1, 0x0020_0000], &[0, 0x4340_0000]),
+        ("d2f", &[0x1000_0000, 0x3FF0_0000], &[0x3F80_0000]),
+        ("ishl", &[1, 33], &[2]),
+        ("dup2_x2", &[1, 2, 3, 4], &[3, 4, 1, 2, 3, 4]),
+        ("i2b", &[128], &[0xFFFF_FF80]),
+        ("l2f", &[1, 0x4000_0040], &[0x5E80_0001]),
+    ];
+    for (instruction, stack, expected) in examples {
+        assert_eq!(
+            left(instruction, stack),
+            expected,
+            "{instruction} {stack:X?}"
+        );
+    }
+    assert_eq!([0, 3, 4].map(switch_operands), [4, 4, 8]);
+}
+
+#[test]
+fn iinc_of_0_with_255() {
+    let method = Method {
+        code: &[0x84, 0x00, 0xFF, 0xB1],
+        kinds: &[],
+        words: &[],
+    };
+    let (mut slots, mut state) = ([0], State::default());
+    state.max_locals = 1;
+    assert_eq!(step(&method, &mut slots, &mut state), Answer::GRANTED);
+    assert_eq!(slots, [0xFFFF_FFFF]);
+}
+
+#[test]
+fn the_printed_walk() {
+    let sheet = "4C4D000400020000 43440004060760AC 41520000";
+    let walk =
+        "step pc op depth top\n0 0 6 0 -\n1 1 7 1 00000003\n2 2 96 2 00000004\nreturn int 00000007";
+    let sheet = bytes(&sheet.replace(' ', "")).unwrap();
+    assert_eq!(printed(&sheet).join("\n"), walk);
+    assert_eq!(printed(&sheet[..19]), ["sheet 21"]);
+}
