@@ -33,6 +33,7 @@ pub enum Operands {
 
 impl Operands {
     /// How many bytes they have, where that does not depend on the bytes.
+    #[must_use]
     pub fn length(self) -> Option<usize> {
         Some(match self {
             Operands::None => 0,
@@ -108,17 +109,20 @@ static TABLE: LazyLock<[Option<Instruction>; 256]> = LazyLock::new(|| {
 });
 
 /// The instruction of an opcode, where it is in the core.
+#[must_use]
 pub fn of_opcode(opcode: u8) -> Option<Instruction> {
     TABLE[usize::from(opcode)]
 }
 
 /// The instruction of a name.
+#[must_use]
 pub fn of_name(name: &str) -> Option<Instruction> {
     let mut found = TABLE.iter().flatten();
     found.find(|entry| entry.name == name).copied()
 }
 
 /// The operands of what `wide` widens: loads and stores of a local, and `iinc`.
+#[must_use]
 pub fn widened(opcode: u8) -> Option<Operands> {
     match opcode {
         21..=25 | 54..=58 => Some(Operands::LongIndex),
@@ -128,6 +132,7 @@ pub fn widened(opcode: u8) -> Option<Operands> {
 }
 
 /// Where the operands of a switch at an offset begin: at the next multiple of 4.
+#[must_use]
 pub fn switch_operands(pc: usize) -> usize {
     (pc + 1).next_multiple_of(4)
 }

@@ -5,6 +5,7 @@ use crate::instructions::{of_opcode, widened, Operands};
 
 /// The instruction at an offset as text: its name, then its operands in decimal, the targets of
 /// branches as offsets in the code. Where there is no whole instruction, the text says so.
+#[must_use]
 pub fn instruction(code: &[u8], pc: u32) -> String {
     let at = pc as usize;
     let Some(&opcode) = code.get(at) else {

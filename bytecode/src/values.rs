@@ -15,6 +15,7 @@ pub enum Kind {
 
 impl Kind {
     /// The kind of a name.
+    #[must_use]
     pub fn of_name(name: &str) -> Option<Kind> {
         Some(match name {
             "int" => Kind::Int,
@@ -26,6 +27,7 @@ impl Kind {
     }
 
     /// The tag of a constant of this kind, as in JVMS 4.4.
+    #[must_use]
     pub fn tag(self) -> u8 {
         match self {
             Kind::Int => 3,
@@ -36,6 +38,7 @@ impl Kind {
     }
 
     /// How many words a value of this kind has.
+    #[must_use]
     pub fn size(self) -> usize {
         match self {
             Kind::Int | Kind::Float => 1,
