@@ -1,8 +1,7 @@
 // Ints and longs cut and extended (JVMS 2.11.4).
 ghost use mathlib.Core.Path.{_≡_};
-ghost use lib.IntN.{pos};
 ghost use Rattle.values.specs.Kinds.{int, long};
-ghost use Rattle.values.specs.Integers.{signed, low};
+ghost use Rattle.values.specs.Integers.{signed, toByte, toChar, toShort};
 ghost use Rattle.values.specs.Words.{bits, meaning};
 
 // I2L: the long that is an int.
@@ -47,21 +46,21 @@ pub fn extended16(a: u16) -> u32
 
 // I2B: the low 8 bits with their sign.
 pub fn i2b(a: u32) -> u32
-    ensures { λ r. ⌜ r ≡ bits int (signed 7 (low 8 (meaning int a))) ⌝ }
+    ensures { λ r. ⌜ r ≡ bits int (toByte (meaning int a)) ⌝ }
 {
     extended8((a % 0x100) as u8)
 }
 
 // I2C: the low 16 bits.
 pub fn i2c(a: u32) -> u32
-    ensures { λ r. ⌜ r ≡ bits int (pos (low 16 (meaning int a))) ⌝ }
+    ensures { λ r. ⌜ r ≡ bits int (toChar (meaning int a)) ⌝ }
 {
     a % 0x1_0000
 }
 
 // I2S: the low 16 bits with their sign.
 pub fn i2s(a: u32) -> u32
-    ensures { λ r. ⌜ r ≡ bits int (signed 15 (low 16 (meaning int a))) ⌝ }
+    ensures { λ r. ⌜ r ≡ bits int (toShort (meaning int a)) ⌝ }
 {
     extended16((a % 0x1_0000) as u16)
 }

@@ -19,7 +19,7 @@ use Rattle.rules.specs.Step.{frame}
 use Rattle.rules.specs.Sheet.{recordEnd, bodyAt, poolIndex, isWide, sheetCheck, memoryCheck, Pool, withWords, withValue, poolFrom, loadedPool, argumentsFrom, loadedFrame, loadedSlots, loadedState, acceptedLoad, loadBy, loadOf, codeOf}
 use Rattle.rules.proofs.Check.{first-passed, last-passed}
 use Rattle.rules.proofs.Questions.{Framed}
-use Rattle.rules.proofs.Sheet.{Within, sheet-within, code-at-12, sheet-numbered, memory-above, load-accepted}
+use Rattle.rules.proofs.Sheet.{Within, sheet-within, code-near, sheet-numbered, memory-above, load-accepted}
 
 -- ---- lengths
 
@@ -60,7 +60,7 @@ length-arguments sheet at (suc n) = ap suc (length-arguments sheet (at + 4) n)
 
 module _ (sheet slots kinds words : List ℕ) (bytes : (i : ℕ) → u8 sheet i < 256) (p : Reading) (read : sheetCheck sheet ≡ passed p) (fits : memoryCheck p slots kinds words ≡ passed tt) where
   abbrev state : State
-  state = loadedState (p .«max_stack») (p .«max_locals»)
+  state = loadedState (p .«max_stack») (p .«max_locals») (p .«return_type»)
 
   abbrev code : List ℕ
   code = codeOf sheet (acceptedLoad p)
@@ -68,7 +68,7 @@ module _ (sheet slots kinds words : List ℕ) (bytes : (i : ℕ) → u8 sheet i 
   within : Within sheet p
   within = sheet-within sheet p read .0
 
-  last : p .last ≡ 4
+  last : p .last ≡ 5
   last = sheet-within sheet p read .1
 
   pub code-is : code ≡ take (p .«code_length») (drop (p .code) sheet)
@@ -139,7 +139,7 @@ module _ (sheet slots kinds words : List ℕ) where
 
 -- the load and where its code lies, by the reading
 pub record Said (sheet : List ℕ) (x : Loaded) : Type 0 where
-  pub starts : x .code ≡ 12
+  pub starts : x .code ≤ 65551
   pub short : x .«code_length» ≤ 65535
   pub is-part : codeOf sheet x ≡ take (x .«code_length») (drop (x .code) sheet)
   pub small-stack : x .state .«max_stack» ≤ 65535
@@ -152,7 +152,7 @@ accepted-said sheet slots kinds words bytes h =
     let w = sheet-within sheet p (r .read) .0 in
     rw (← load-accepted sheet slots kinds words p (r .read) (r .fits) (loadedPool sheet p kinds words) refl)
     (record {
-      starts = code-at-12 sheet p (r .read);
+      starts = code-near sheet bytes p (r .read);
       short = w .short-code bytes;
       is-part = code-is sheet slots kinds words bytes p (r .read) (r .fits);
       small-stack = w .small-stack bytes;

@@ -14,6 +14,7 @@ use Rattle.rules.specs.declared.End.the-variants as End
 use Rattle.rules.specs.Check.{_else_, _>>_, _>>=_}
 use Rattle.rules.specs.Instructions.{rowOf}
 use Rattle.rules.specs.Fetch.{wideCheck, tableCheck, lookupCheck, offsetsFrom, pairsFrom, fetched, aligned}
+use Rattle.rules.specs.Returns.{isReturnType, narrowed, returned}
 use Rattle.rules.specs.Questions.{Method, method, frameCheck, needsCheck}
 use Rattle.rules.specs.Step.{decideFrame, decideOf, Machine, coreMachine}
 use Rattle.rules.specs.Run.{Ran, runFrom, runOf}
@@ -21,7 +22,7 @@ use Rattle.rules.specs.Run.{Ran, runFrom, runOf}
 -- ---- the step and the run on given lists and numbers, open to computation
 
 abbrev pub state : ℕ → ℕ → ℕ → ℕ → ℕ → State
-state stack locals pc depth count = record { «max_stack» = stack; «max_locals» = locals; pc = pc; depth = depth; count = count }
+state stack locals pc depth count = record { «max_stack» = stack; «max_locals» = locals; pc = pc; depth = depth; count = count; «return_type» = 0 }
 
 -- an ordinary step to an offset and a depth that writes these words from a place on, written out
 abbrev pub changes : ℕ → ℕ → ℕ → List ℕ → Decision
@@ -41,7 +42,7 @@ changes pc depth first ws =
 
 unfoldable pub decided : Method → State → List ℕ → Decision
 unfolding decideFrame frameCheck fetched needsCheck wideCheck tableCheck lookupCheck offsetsFrom pairsFrom rowOf _else_ _>>_ _>>=_
-    signed low bitwise flipped nearest Ieee.ofBits Ieee.toBits Ieee.ofInt Ieee.toSigned Ieee.round Ieee.add Ieee.sub Ieee.mul Ieee.div Ieee.rem Ieee.lt Ieee.eq
+    returned isReturnType narrowed signed low bitwise flipped nearest Ieee.ofBits Ieee.toBits Ieee.ofInt Ieee.toSigned Ieee.round Ieee.add Ieee.sub Ieee.mul Ieee.div Ieee.rem Ieee.lt Ieee.eq
 decided l s slots = decideOf l s slots
 
 unfoldable pub ran : Method → ℕ → State → List ℕ → Ran

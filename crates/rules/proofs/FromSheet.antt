@@ -160,7 +160,7 @@ module _ (sheet slots kinds words : List ℕ) (bytes : (i : ℕ) → u8 sheet i 
       ∙ ap (λ (w : List ℕ). method (take (p .«code_length») (drop (p .code) sheet)) (placesBy (length (loadedPool sheet p kinds words .kinds)) (inPool kindBy sheet p)) w) words-given
 
   -- and so is stage 0
-  pub stage-given : stageOf (loadedState (p .«max_stack») (p .«max_locals»)) (loadedSlots sheet p slots) ≡ stage0 sheet p
+  pub stage-given : stageOf (loadedState (p .«max_stack») (p .«max_locals») (p .«return_type»)) (loadedSlots sheet p slots) ≡ stage0 sheet p
   stage-given = ap (λ (f : List ℕ). record { pc = 0; depth = 0; frame = f })
       (frame-is sheet slots kinds words bytes p read fits
       ∙ places-are (loadedFrame sheet p) (argumentOrZero sheet p) (frame-at sheet p)
@@ -169,14 +169,14 @@ module _ (sheet slots kinds words : List ℕ) (bytes : (i : ℕ) → u8 sheet i 
   module _ (rules : Method → Decider) (law : (l : Method) → Lawful (record { runs = l; decides = rules l })) where
     -- the plain walk on these slots, by its method and stage 0
     abbrev build : List ℕ → Method → Stage → PlainWalk
-    build log l t = record { machine = record { runs = l; decides = rules l }; slots = length (loadedSlots sheet p slots); log = length log; state = loadedState (p .«max_stack») (p .«max_locals»); first = t }
+    build log l t = record { machine = record { runs = l; decides = rules l }; slots = length (loadedSlots sheet p slots); log = length log; state = loadedState (p .«max_stack») (p .«max_locals») (p .«return_type»); first = t }
 
     walk-given : (log : List ℕ)
         → walkFrom (record { runs = method (codeOf sheet (acceptedLoad p)) (loadedPool sheet p kinds words .kinds) (loadedPool sheet p kinds words .words); decides = rules (method (codeOf sheet (acceptedLoad p)) (loadedPool sheet p kinds words .kinds) (loadedPool sheet p kinds words .words)) })
-        (loadedState (p .«max_stack») (p .«max_locals»)) (loadedSlots sheet p slots) log
+        (loadedState (p .«max_stack») (p .«max_locals») (p .«return_type»)) (loadedSlots sheet p slots) log
         ≡ plainWalkOf rules sheet (lengths (length log))
     walk-given log =
-        ap (λ (l : Method). build log l (stageOf (loadedState (p .«max_stack») (p .«max_locals»)) (loadedSlots sheet p slots))) (method-given (length log))
+        ap (λ (l : Method). build log l (stageOf (loadedState (p .«max_stack») (p .«max_locals») (p .«return_type»)) (loadedSlots sheet p slots))) (method-given (length log))
         ∙ ap (build log (sheetMethod sheet p (lengths (length log)))) stage-given
         ∙ ap (plainWalkBy rules sheet (lengths (length log))) (sym (ap readingOf read))
 

@@ -18,6 +18,7 @@ use Rattle.rules.specs.Check.{Check, passed, refused}
 use Rattle.rules.specs.Forms.{Result, pushes, stores, divides, branches, returns}
 use Rattle.rules.specs.Instructions.{rowOf}
 use Rattle.rules.specs.Fetch.{Instruction, fetched}
+use Rattle.rules.specs.Returns.{returned}
 use Rattle.rules.specs.Questions.{Method, frameSize, pushed, frameCheck, needsCheck}
 use Rattle.rules.specs.Step.{frame, base, firstPlace, inside, ordinary, following, target, outcome, decision, decideFrame, decideOf, moved, updateWords, written}
 use Rattle.rules.proofs.Check.{Holds, asked, after, bound, held, either}
@@ -106,7 +107,7 @@ module _ (l : Method) (n : ℕ) (s : State) where
     outcome-fine (stores ws) = stored-fine ws
     outcome-fine (divides by ws) = either Fine (eqb by 0) _ _ tt (pushed-fine ws)
     outcome-fine (branches t z) = ordinary-fine (cond t (target s z) (following s i)) 0 0 [] (omega arith) (omega arith)
-    outcome-fine (returns v) = tt
+    outcome-fine (returns v) = bound Fine (returned (s .«return_type») v) _ (λ r e. tt)
 
   -- THE LAW: an ordinary step is legal
   pub decide-legal : (words : List ℕ) → IfOrdinary (Legal l s n) (decideFrame l n s words)

@@ -1,13 +1,14 @@
--- A step is refused with a number from 1 to 11. Assumes nothing.
+-- A step is refused with a number from 1 to 11, or 32. Assumes nothing.
 use Prim.Native.Nat.{ℕ}
 use mathlib.Core.Path.{_≡_, refl}
-use mathlib.Core.Bool.{Bool, true, false, _&&_, cond}
+use mathlib.Core.Bool.{Bool, true, false, _&&_, _||_, cond}
 use mathlib.Core.List.{List, []}
 use mathlib.Core.Option.{Option, none, some}
 use native.Mathlib.Omega.{arith}
 use borrow.Author.Tests.{eqb-true}
 use lib.Dec.{eqb}
 use lib.IntN.{ℤ, pos, negsuc}
+use Rattle.values.specs.declared.Value.{Value}
 use Rattle.values.specs.Kinds.{placesOf}
 use Rattle.rules.specs.declared.State.{State}
 use Rattle.rules.specs.declared.Decision.{Decision}
@@ -16,6 +17,7 @@ use Rattle.rules.specs.Check.{Check, passed, refused, _else_, _>>=_, _>>
 use Rattle.rules.specs.Forms.{Row, Operand, Format, alone, implied, byte, short, index, index2, index-const, branch, branch4, table, pairs, widened, Result, pushes, stores, divides, branches, returns}
 use Rattle.rules.specs.Instructions.{rowOf}
 use Rattle.rules.specs.Fetch.{u8, Instruction, coreRow, core, sized, wideOpcode, wideCheck, tableCheck, lookupCheck, byFormat, fetched}
+use Rattle.rules.specs.Returns.{returned}
 use Rattle.rules.specs.Questions.{Method, pushed, frameCheck, needsCheck}
 use Rattle.rules.specs.Step.{base, inside, ordinary, following, target, outcome, decision, decideFrame}
 use Rattle.rules.proofs.Check.{Any, Numbered, last-numbered, after-numbered, bound-numbered, asked-numbered, either-numbered}
@@ -24,7 +26,7 @@ use Rattle.rules.proofs.Step.{result}
 -- ---- a row of questions
 
 abbrev pub OfStep : ℕ → Type 0
-OfStep n = ((1 ≤ⁿ n) && (n ≤ⁿ 11)) ≡ true
+OfStep n = ((1 ≤ⁿ n) && (n ≤ⁿ 11) || (n =ⁿ 32)) ≡ true
 
 -- ---- the questions of a step
 
@@ -84,6 +86,10 @@ unfolding Numbered
 decision-numbered (passed d) h = h
 decision-numbered (refused n) h = h
 
+returned-numbered : (t : ℕ) (v : Value) → Numbered OfStep Any (returned t v)
+unfolding returned Numbered
+returned-numbered t v = asked-numbered OfStep Any _ 32 _ refl tt
+
 module _ (l : Method) (s : State) where
   needs-numbered : (i : Instruction) → Numbered OfStep Any (needsCheck l s i)
   unfolding needsCheck
@@ -104,7 +110,7 @@ module _ (l : Method) (s : State) where
   outcome-numbered i (stores ws) = ordinary-numbered i (following s i) (i .operand .index) (placesOf (i .rule .locals)) ws
   outcome-numbered i (divides by ws) = either-numbered OfStep Fine (by =ⁿ 0) _ _ tt (ordinary-numbered i (following s i) (base s i) (pushed i) ws)
   outcome-numbered i (branches t z) = ordinary-numbered i (cond t (target s z) (following s i)) 0 0 []
-  outcome-numbered i (returns v) = tt
+  outcome-numbered i (returns v) = bound-numbered OfStep Fine (returned (s .«return_type») v) _ (returned-numbered (s .«return_type») v) (λ r. tt)
 
   -- THE LAW
   pub decide-numbered : (n : ℕ) (words : List ℕ) → IfRefused OfStep (decideFrame l n s words)
@@ -122,7 +128,7 @@ not-14 : (n : ℕ) → OfStep n → Not14 n
 not-14 n h = go (eqb n 14) refl
   where
     go : (b : Bool) → eqb n 14 ≡ b → b ≡ false
-    go true e = let z : ((1 ≤ⁿ 14) && (14 ≤ⁿ 11)) ≡ true = rw (eqb-true n 14 e) at h in let y : _≡_ {A = ℕ} 0 1 = cc in absurd (omega arith)
+    go true e = let z : ((1 ≤ⁿ 14) && (14 ≤ⁿ 11) || (14 =ⁿ 32)) ≡ true = rw (eqb-true n 14 e) at h in let y : _≡_ {A = ℕ} 0 1 = cc in absurd (omega arith)
     go false e = refl
 
 pub never-14 : (d : Decision) → IfRefused OfStep d → IfRefused Not14 d

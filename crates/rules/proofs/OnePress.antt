@@ -31,16 +31,22 @@ use Rattle.rules.proofs.Lawful.{Lawful, ordinary-by}
 use Rattle.rules.proofs.Pasted.{paste-same, paste-back, take-front, drop-front, part-front, entry-put, entry-below, entry-word, entry-words}
 use Rattle.rules.proofs.Scratch.{zeroed-twice, frame-cleared, beyond-cleared, length-cleared}
 
--- what is decided of a state is what is decided of its stage, in a walk of the same sizes, with as many slots
-pub decides : (f : PlainWalk) → Lawful (f .machine) → (s : State) (slots : List ℕ) → s .«max_stack» ≡ f .state .«max_stack» → s .«max_locals» ≡ f .state .«max_locals» → length slots ≡ f .slots
+-- what no step and no press changes of a state: the sizes and the return type
+pub record SameMethod (s t : State) : Type 0 where
+  pub stacked : s .«max_stack» ≡ t .«max_stack»
+  pub localed : s .«max_locals» ≡ t .«max_locals»
+  pub typed : s .«return_type» ≡ t .«return_type»
+
+-- what is decided of a state is what is decided of its stage, in a walk of the same method, with as many slots
+pub decides : (f : PlainWalk) → Lawful (f .machine) → (s : State) (slots : List ℕ) → SameMethod s (f .state) → length slots ≡ f .slots
     → decideOn (f .machine) s slots ≡ decisionAt f (stageOf s slots)
-decides f law s slots a b n =
+decides f law s slots same n =
     ap (λ (k : ℕ). f .machine .decides k s (frame s slots)) n
     ∙ sym (law .unseen (f .slots) s (frame s slots))
     ∙ ap (λ (t : State). f .machine .decides (f .slots) t (frame s slots)) here
   where
     here : uncounted s ≡ moved (f .state) (s .pc) (s .depth) 0
-    here = rw (a, b)
+    here = rw (same .stacked, same .localed, same .typed)
 
 -- ---- the steps between stages
 
@@ -105,8 +111,7 @@ pub record Stands (f : PlainWalk) (slots₀ : List ℕ) (far net : ℕ) (s : Sta
   pub outside : beyond (f .state) slots ≡ zeroed far (beyond (f .state) slots₀)
   pub long : length slots ≡ f .slots
   pub counted : s .count ≡ net
-  pub stacked : s .«max_stack» ≡ f .state .«max_stack»
-  pub localed : s .«max_locals» ≡ f .state .«max_locals»
+  pub same-method : SameMethod s (f .state)
   pub roomy : length log ≡ f .log
   pub framed : Framed (f .machine .runs) s (f .slots)
   pub reached : 10 * net ≤ f .log
@@ -122,8 +127,8 @@ module _ (f : PlainWalk) (law : Lawful (f .machine)) (slots₀ : List ℕ) (whol
   recleared : (far net : ℕ) (s : State) (slots log : List ℕ) → Stands f slots₀ far net s slots log → (n : ℕ) → n ≤ f .slots - frameSize s
       → Stands f slots₀ (max far n) net s (cleared s n slots) log
   recleared far net s slots log c n h =
-      let a = c .stacked in
-      let b = c .localed in
+      let a = c .same-method .stacked in
+      let b = c .same-method .localed in
       let g = c .framed in
       let same : frameSize s ≡ frameSize (f .state) = omega arith in
       let room : frameSize s ≤ length slots = omega (arith, g .room, c .long) in
@@ -137,8 +142,7 @@ module _ (f : PlainWalk) (law : Lawful (f .machine)) (slots₀ : List ℕ) (whol
             ∙ zeroed-twice far n (beyond (f .state) slots₀);
         long = length-cleared s slots room n (omega (arith, c .long)) ∙ c .long;
         counted = c .counted;
-        stacked = a;
-        localed = b;
+        same-method = c .same-method;
         roomy = c .roomy;
         framed = g;
         reached = c .reached;
@@ -147,13 +151,13 @@ module _ (f : PlainWalk) (law : Lawful (f .machine)) (slots₀ : List ℕ) (whol
 
   module _ (far net : ℕ) (s : State) (slots log : List ℕ) (c : Stands f slots₀ far net s slots log) where
     same-size : frameSize s ≡ frameSize (f .state)
-    same-size = let a = c .stacked in let b = c .localed in omega arith
+    same-size = let a = c .same-method .stacked in let b = c .same-method .localed in omega arith
 
     room-here : frameSize s ≤ length slots
     room-here = let g = c .framed in omega (arith, g .room, c .long)
 
     staged : decideOn (f .machine) s slots ≡ decisionAt f (stageOf s slots)
-    staged = decides f law s slots (c .stacked) (c .localed) (c .long)
+    staged = decides f law s slots (c .same-method) (c .long)
 
     -- how far this step writes after the frame
     abbrev here : ℕ
@@ -208,8 +212,7 @@ module _ (f : PlainWalk) (law : Lawful (f .machine)) (slots₀ : List ℕ) (whol
             outside = rw (sym same-size) (drop-front slots (u .first) (u .many) (frameSize s) (updateWords u) (legal .within) room-here (legal .few)) ∙ c .outside;
             long = written-length (f .machine .runs) s slots u legal ∙ c .long;
             counted = ap (λ (n : ℕ). n + 1) (c .counted);
-            stacked = c .stacked;
-            localed = c .localed;
+            same-method = record { stacked = c .same-method .stacked; localed = c .same-method .localed; typed = c .same-method .typed };
             roomy = length-paste log (10 * s .count) (undoRecord (s .pc) (s .depth) (u .first) (u .many) slots) 10 (omega (arith, c .counted, c .roomy)) (omega (arith, entry-length)) ∙ c .roomy;
             framed = rw (← c .long) (still-framed (f .machine .runs) s (length slots) u legal (s .count + 1));
             reached = omega arith;
@@ -278,7 +281,7 @@ module _ (f : PlainWalk) (law : Lawful (f .machine)) (slots₀ : List ℕ) (whol
       back-sound =
           let g = last-legal in
           let e = g .frame-there in
-          simp (back-pc, back-depth, back-first, back-many, lt-ltb _ _ (e .in-code), le-leb (last .from .depth) (s .«max_stack») (omega (arith, e .deep, c .stacked)), le-leb (last .by .many) 6 (g .few), le-leb (last .by .first + last .by .many) (s .«max_locals» + s .«max_stack») (omega (arith, g .within, same-size)), or-true)
+          simp (back-pc, back-depth, back-first, back-many, lt-ltb _ _ (e .in-code), le-leb (last .from .depth) (s .«max_stack») (omega (arith, e .deep, c .same-method .stacked)), le-leb (last .by .many) 6 (g .few), le-leb (last .by .first + last .by .many) (s .«max_locals» + s .«max_stack») (omega (arith, g .within, same-size)), or-true)
         where
           or-true : (b : Bool) → (b || true) ≡ true
           or-true true = refl
@@ -300,7 +303,7 @@ module _ (f : PlainWalk) (law : Lawful (f .machine)) (slots₀ : List ℕ) (whol
       back-framed =
           let g = last-legal .frame-there in
           let r = c .framed in
-          record { paired = r .paired; pool = r .pool; room = r .room; some-code = r .some-code; short-code = r .short-code; in-code = g .in-code; deep = omega (arith, g .deep, c .stacked) }
+          record { paired = r .paired; pool = r .pool; room = r .room; some-code = r .some-code; short-code = r .short-code; in-code = g .in-code; deep = omega (arith, g .deep, c .same-method .stacked) }
 
       returns : Agrees f slots₀ far k Granted (restored s slots log (10 * k))
       returns =
@@ -312,8 +315,7 @@ module _ (f : PlainWalk) (law : Lawful (f .machine)) (slots₀ : List ℕ) (whol
               outside = rw (sym same-size) (drop-front slots (last .by .first) (last .by .many) (frameSize s) (drop (10 * k + 4) log) (omega (arith, g .within, same-size)) room-here (omega (arith, g .few, long-log, length-drop (10 * k + 4) log))) ∙ c .outside;
               long = back-long ∙ c .long;
               counted = omega (arith, c .counted);
-              stacked = c .stacked;
-              localed = c .localed;
+              same-method = record { stacked = c .same-method .stacked; localed = c .same-method .localed; typed = c .same-method .typed };
               roomy = c .roomy;
               framed = back-framed;
               reached = omega (arith, c .reached);

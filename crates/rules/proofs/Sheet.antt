@@ -1,19 +1,20 @@
 -- What a sheet that is read says of what was read, and what an accepted load leaves. Assumes nothing.
 use Prim.Native.Nat.{ℕ, zero, suc, _+_, _-_, _*_, _/_, _%_, _≤_, _<_}
 use mathlib.Core.Path.{_≡_, refl, sym, ap, _∙_}
-use mathlib.Core.Bool.{Bool, true, false, _||_, cond}
+use mathlib.Core.Bool.{Bool, true, false, not, _||_, cond}
 use mathlib.Core.List.{List}
 use native.Mathlib.Omega.{arith}
 use lib.Dec.{ltb, leb, eqb}
 use lib.ListN.{length}
 use borrow.Author.Tests.{ltb-true, leb-true, le-leb, lt-leb, le-ltb, lt-ltb, eqb-true}
 use Rattle.rules.specs.declared.Mark.{Mark}
-use Rattle.rules.specs.declared.Mark.the-variants.{LM, CD, KI, AR}
+use Rattle.rules.specs.declared.Mark.the-variants.{LM, DS, CD, KI, AR}
 use Rattle.rules.specs.declared.Reading.{Reading}
 use Rattle.rules.specs.Check.{Check, passed, refused, _else_, _>>=_, _>>_}
 use Rattle.rules.specs.Fetch.{u8, u16}
-use Rattle.rules.specs.Sheet.{bodyLength, bodyAt, recordEnd, knownMark, follows, rightLength, unread, withRecord, poolIndex, poolTag, tagSuits, lastIndex, argumentCount, contentsCheck, markedCheck, recordCheck, endCheck, readFrom, sheetCheck, Pool, withValue, poolFrom, loadedPool, loadedSlots, acceptedLoad, refusedLoad, memoryCheck, loadOf}
-use Rattle.rules.proofs.Check.{last-passed, Holds, asked, after, bound, held, either, bind-same, Any, Numbered, last-numbered, after-numbered, bound-numbered, asked-numbered, either-numbered, refused-numbered}
+use Rattle.rules.specs.Descriptor.{descriptorCheck}
+use Rattle.rules.specs.Sheet.{bodyLength, bodyAt, recordEnd, knownMark, follows, rightLength, descriptorAt, unread, isDescribed, withRecord, poolIndex, poolTag, tagSuits, lastIndex, argumentCount, contentsCheck, markedCheck, recordCheck, endCheck, readFrom, sheetCheck, Pool, withValue, poolFrom, loadedPool, loadedSlots, acceptedLoad, refusedLoad, memoryCheck, loadOf}
+use Rattle.rules.proofs.Check.{first-passed, Holds, asked, after, bound, held, either, bind-same, Any, Numbered, last-numbered, after-numbered, bound-numbered, asked-numbered, either-numbered, refused-numbered}
 
 -- ---- a record, question by question
 
@@ -82,9 +83,15 @@ module _ (sheet : List ℕ) (at : ℕ) (p : Reading) where
   unfolding contentsCheck _else_ _>>_
   too-many h = simp (lt-leb _ _ h)
 
-  pub arguments-read : argumentCount sheet at ≤ p .«max_locals» → contentsCheck sheet at p AR ≡ passed tt
-  unfolding contentsCheck _else_ _>>_
-  arguments-read h = simp (le-leb _ _ h)
+  module _ (few : argumentCount sheet at ≤ p .«max_locals») where
+    -- 31
+    pub wrong-count : (not (isDescribed p) || eqb (argumentCount sheet at) (p .«parameter_places»)) ≡ false → contentsCheck sheet at p AR ≡ refused 31
+    unfolding contentsCheck _else_ _>>_
+    wrong-count h = simp (le-leb _ _ few, h)
+
+    pub arguments-read : (not (isDescribed p) || eqb (argumentCount sheet at) (p .«parameter_places»)) ≡ true → contentsCheck sheet at p AR ≡ passed tt
+    unfolding contentsCheck _else_ _>>_
+    arguments-read h = simp (le-leb _ _ few, h)
 
 -- a record that is read ends in the sheet
 Ends : List ℕ → ℕ → Reading → Type 0
@@ -163,22 +170,22 @@ module _ (sheet : List ℕ) (end : ℕ) where
 
 -- of the code once it is read, and of the arguments once they are
 pub record Within (sheet : List ℕ) (p : Reading) : Type 0 where
-  pub code-there : 2 ≤ p .last → p .code + p .«code_length» ≤ length sheet
-  pub some-code : 2 ≤ p .last → 1 ≤ p .«code_length»
+  pub code-there : 3 ≤ p .last → p .code + p .«code_length» ≤ length sheet
+  pub some-code : 3 ≤ p .last → 1 ≤ p .«code_length»
   pub short-code : ((i : ℕ) → u8 sheet i < 256) → p .«code_length» ≤ 65535
-  pub after-head : 4 ≤ p .last → 4 ≤ p .arguments
-  pub arguments-there : 4 ≤ p .last → p .arguments + 4 * p .«argument_count» ≤ length sheet
-  pub few-arguments : 4 ≤ p .last → p .«argument_count» ≤ p .«max_locals»
+  pub after-head : 5 ≤ p .last → 4 ≤ p .arguments
+  pub arguments-there : 5 ≤ p .last → p .arguments + 4 * p .«argument_count» ≤ length sheet
+  pub few-arguments : 5 ≤ p .last → p .«argument_count» ≤ p .«max_locals»
   pub small-stack : ((i : ℕ) → u8 sheet i < 256) → p .«max_stack» ≤ 65535
   pub small-locals : ((i : ℕ) → u8 sheet i < 256) → p .«max_locals» ≤ 65535
 
 -- a KI or an AR record comes after the code
-after-code : (last : ℕ) → (eqb last 2 || eqb last 3) ≡ true → 2 ≤ last
-after-code last e = go (eqb last 2) refl (eqb last 3) refl e
+after-code : (last : ℕ) → (eqb last 3 || eqb last 4) ≡ true → 3 ≤ last
+after-code last e = go (eqb last 3) refl (eqb last 4) refl e
   where
-    go : (t : Bool) → eqb last 2 ≡ t → (u : Bool) → eqb last 3 ≡ u → (t || u) ≡ true → 2 ≤ last
-    go true p u q r = let k = eqb-true last 2 p in omega arith
-    go false p true q r = let k = eqb-true last 3 q in omega arith
+    go : (t : Bool) → eqb last 3 ≡ t → (u : Bool) → eqb last 4 ≡ u → (t || u) ≡ true → 3 ≤ last
+    go true p u q r = let k = eqb-true last 3 p in omega arith
+    go false p true q r = let k = eqb-true last 4 q in omega arith
     go false p false q r = let z : _≡_ {A = ℕ} 0 1 = cc in absurd (omega arith)
 
 module _ (sheet : List ℕ) where
@@ -200,6 +207,16 @@ module _ (sheet : List ℕ) where
       few-arguments = λ k. absurd (omega arith);
       small-stack = λ bytes. omega (arith, bytes (bodyAt at), bytes (bodyAt at + 1));
       small-locals = λ bytes. omega (arith, bytes (bodyAt at + 2), bytes (bodyAt at + 2 + 1));
+    }
+    with-within DS f r c = record {
+      code-there = λ k. absurd (omega arith);
+      some-code = λ k. absurd (omega arith);
+      short-code = h .short-code;
+      after-head = λ k. absurd (omega arith);
+      arguments-there = λ k. absurd (omega arith);
+      few-arguments = λ k. absurd (omega arith);
+      small-stack = h .small-stack;
+      small-locals = h .small-locals;
     }
     with-within CD f r c = record {
       code-there = λ k. there;
@@ -227,7 +244,7 @@ module _ (sheet : List ℕ) where
       short-code = h .short-code;
       after-head = λ k. omega arith;
       arguments-there = λ k. let e = eqb-true (bodyLength sheet at % 4) 0 r in omega arith;
-      few-arguments = λ k. leb-true _ _ (last-passed _ 27 c);
+      few-arguments = λ k. leb-true _ _ (first-passed _ 27 _ c .0);
       small-stack = h .small-stack;
       small-locals = h .small-locals;
     }
@@ -239,7 +256,7 @@ module _ (sheet : List ℕ) where
 
   -- the whole sheet
   Complete : Reading → Type 0
-  Complete p = (Within sheet p) × (p .last ≡ 4)
+  Complete p = (Within sheet p) × (p .last ≡ 5)
 
   end-within : (p : Reading) → Within sheet p → Holds Complete (endCheck p)
   unfolding Holds Complete
@@ -251,7 +268,7 @@ module _ (sheet : List ℕ) where
   read-within (suc n) at p h =
       either Complete (leb (length sheet) at) _ _ (end-within p h) (bound Complete (recordCheck sheet at p) _ (λ q e. read-within n (recordEnd sheet at) q (held W (recordCheck sheet at p) q (record-within at p h) e)))
 
-  pub sheet-within : (p : Reading) → sheetCheck sheet ≡ passed p → (Within sheet p) × (p .last ≡ 4)
+  pub sheet-within : (p : Reading) → sheetCheck sheet ≡ passed p → (Within sheet p) × (p .last ≡ 5)
   unfolding sheetCheck Complete
   sheet-within p e = held Complete (sheetCheck sheet) p (read-within (length sheet) 0 unread nothing-read) e
     where
@@ -267,14 +284,24 @@ module _ (sheet : List ℕ) where
         small-locals = λ b. omega arith;
       }
 
--- ---- the code begins at offset 12: it follows LM, which stands first and has four bytes
+-- ---- the code begins at an offset of 32 bits: before it stand LM, which has four bytes, and at most one DS
 
 record Placed (at : ℕ) (p : Reading) : Type 0 where
   first : p .last ≡ 0 → at ≡ 0
   second : p .last ≡ 1 → at ≡ 8
-  code-at : 2 ≤ p .last → p .code ≡ 12
+  third : p .last ≡ 2 → at ≤ 65547
+  code-at : 3 ≤ p .last → p .code ≤ 65551
 
-module _ (sheet : List ℕ) where
+-- a CD record comes after one of these
+before-code : (last : ℕ) → (eqb last 1 || eqb last 2) ≡ true → (P : ℕ → Type 0) → P 1 → P 2 → P last
+before-code last e P one two = go (eqb last 1) refl (eqb last 2) refl e
+  where
+    go : (t : Bool) → eqb last 1 ≡ t → (u : Bool) → eqb last 2 ≡ u → (t || u) ≡ true → P last
+    go true p u q r = rw (eqb-true last 1 p) one
+    go false p true q r = rw (eqb-true last 2 q) two
+    go false p false q r = let z : _≡_ {A = ℕ} 0 1 = cc in absurd (omega arith)
+
+module _ (sheet : List ℕ) (bytes : (i : ℕ) → u8 sheet i < 256) where
   After : ℕ → Reading → Type 0
   After at p = Placed (recordEnd sheet at) p
 
@@ -283,21 +310,31 @@ module _ (sheet : List ℕ) where
   with-placed at p h LM f r = record {
     first = λ e. absurd (omega arith);
     second = λ e. omega (arith, h .first (eqb-true (p .last) 0 f), eqb-true (bodyLength sheet at) 4 r);
+    third = λ e. absurd (omega arith);
+    code-at = λ k. absurd (omega arith);
+  }
+  with-placed at p h DS f r = record {
+    first = λ e. absurd (omega arith);
+    second = λ e. absurd (omega arith);
+    third = λ e. omega (arith, h .second (eqb-true (p .last) 1 f), body-short sheet at bytes);
     code-at = λ k. absurd (omega arith);
   }
   with-placed at p h CD f r = record {
     first = λ e. absurd (omega arith);
     second = λ e. absurd (omega arith);
-    code-at = λ k. omega (arith, h .second (eqb-true (p .last) 1 f));
+    third = λ e. absurd (omega arith);
+    code-at = λ k. before-code (p .last) f (λ n. p .last ≡ n → bodyAt at ≤ 65551) (λ e. omega (arith, h .second e)) (λ e. omega (arith, h .third e)) refl;
   }
   with-placed at p h KI f r = record {
     first = λ e. absurd (omega arith);
     second = λ e. absurd (omega arith);
+    third = λ e. absurd (omega arith);
     code-at = λ k. h .code-at (after-code (p .last) f);
   }
   with-placed at p h AR f r = record {
     first = λ e. absurd (omega arith);
     second = λ e. absurd (omega arith);
+    third = λ e. absurd (omega arith);
     code-at = λ k. h .code-at (after-code (p .last) f);
   }
 
@@ -306,22 +343,24 @@ module _ (sheet : List ℕ) where
   record-placed at p h = asked (After at) _ 21 _ (λ _. asked (After at) _ 21 _ (λ _. bound (After at) (knownMark (u16 sheet at)) _ (λ m e.
       asked (After at) _ 23 _ (λ f. asked (After at) _ 24 _ (λ r. after (After at) (contentsCheck sheet at p m) _ (λ _. with-placed at p h m f r))))))
 
-  At12 : Reading → Type 0
-  At12 p = p .code ≡ 12
+  Near : Reading → Type 0
+  Near p = p .code ≤ 65551
 
-  end-placed : (at : ℕ) (p : Reading) → Placed at p → Holds At12 (endCheck p)
-  unfolding Holds At12
-  end-placed at p h = asked At12 _ 23 _ (λ e. h .code-at (omega (arith, eqb-true (p .last) 4 e)))
+  end-placed : (at : ℕ) (p : Reading) → Placed at p → Holds Near (endCheck p)
+  unfolding Holds Near
+  end-placed at p h = asked Near _ 23 _ (λ e. h .code-at (omega (arith, eqb-true (p .last) 5 e)))
 
-  read-placed : (n at : ℕ) (p : Reading) → Placed at p → Holds At12 (readFrom n sheet at p)
+  read-placed : (n at : ℕ) (p : Reading) → Placed at p → Holds Near (readFrom n sheet at p)
   unfolding readFrom After
   read-placed zero at p h = end-placed at p h
   read-placed (suc n) at p h =
-      either At12 (leb (length sheet) at) _ _ (end-placed at p h) (bound At12 (recordCheck sheet at p) _ (λ q e. read-placed n (recordEnd sheet at) q (held (After at) (recordCheck sheet at p) q (record-placed at p h) e)))
+      either Near (leb (length sheet) at) _ _ (end-placed at p h) (bound Near (recordCheck sheet at p) _ (λ q e. read-placed n (recordEnd sheet at) q (held (After at) (recordCheck sheet at p) q (record-placed at p h) e)))
 
-  pub code-at-12 : (p : Reading) → sheetCheck sheet ≡ passed p → p .code ≡ 12
-  unfolding sheetCheck At12
-  code-at-12 p e = held At12 (sheetCheck sheet) p (read-placed (length sheet) 0 unread (record { first = λ e. refl; second = λ e. absurd (omega arith); code-at = λ k. absurd (omega arith) })) e
+  pub code-near : (p : Reading) → sheetCheck sheet ≡ passed p → p .code ≤ 65551
+  unfolding sheetCheck Near
+  code-near p e =
+      held Near (sheetCheck sheet) p
+      (read-placed (length sheet) 0 unread (record { first = λ e. refl; second = λ e. absurd (omega arith); third = λ e. absurd (omega arith); code-at = λ k. absurd (omega arith) })) e
 
 -- ---- a sheet is refused with a number above 0
 
@@ -331,14 +370,19 @@ Above n = ltb 0 n ≡ true
 module _ (sheet : List ℕ) where
   mark-numbered : (n : ℕ) → Numbered Above Any (knownMark n)
   unfolding Numbered
-  mark-numbered n = either-numbered Above Any (eqb n 0x4C4D) _ _ tt (either-numbered Above Any (eqb n 0x4344) _ _ tt (either-numbered Above Any (eqb n 0x4B49) _ _ tt (either-numbered Above Any (eqb n 0x4152) _ _ tt refl)))
+  mark-numbered n = either-numbered Above Any (eqb n 0x4C4D) _ _ tt (either-numbered Above Any (eqb n 0x4453) _ _ tt (either-numbered Above Any (eqb n 0x4344) _ _ tt (either-numbered Above Any (eqb n 0x4B49) _ _ tt (either-numbered Above Any (eqb n 0x4152) _ _ tt refl))))
+
+  descriptor-numbered : (d : List ℕ) → Numbered Above Any (descriptorCheck d)
+  unfolding descriptorCheck
+  descriptor-numbered d = asked-numbered Above Any _ 31 _ refl (asked-numbered Above Any _ 31 _ refl (asked-numbered Above Any _ 31 _ refl (last-numbered Above _ 31 refl)))
 
   contents-numbered : (at : ℕ) (p : Reading) (m : Mark) → Numbered Above Any (contentsCheck sheet at p m)
   unfolding contentsCheck Numbered
   contents-numbered at p LM = tt
+  contents-numbered at p DS = descriptor-numbered (descriptorAt sheet at)
   contents-numbered at p CD = tt
   contents-numbered at p KI = asked-numbered Above Any _ 25 _ refl (asked-numbered Above Any _ 25 _ refl (last-numbered Above _ 25 refl))
-  contents-numbered at p AR = last-numbered Above _ 27 refl
+  contents-numbered at p AR = asked-numbered Above Any _ 27 _ refl (last-numbered Above _ 31 refl)
 
   record-numbered : (at : ℕ) (p : Reading) → Numbered Above Any (recordCheck sheet at p)
   unfolding recordCheck markedCheck Numbered

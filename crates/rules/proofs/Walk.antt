@@ -29,7 +29,7 @@ use Rattle.rules.proofs.Numbers.{IfRefused, Not14}
 use Rattle.rules.proofs.Lawful.{Lawful, ordinary-by}
 use Rattle.rules.proofs.Pasted.{take-front, drop-front}
 use Rattle.rules.proofs.Scratch.{zeroed-twice, frame-cleared, beyond-cleared, length-cleared}
-use Rattle.rules.proofs.OnePress.{decides, Stands, press-agrees}
+use Rattle.rules.proofs.OnePress.{SameMethod, decides, Stands, press-agrees}
 
 -- ---- a list of presses follows the plain walk, from any net on
 
@@ -128,16 +128,16 @@ module _ (f : PlainWalk) (law : Lawful (f .machine)) where
 
   RunsTo : ℕ → Type 0
   RunsTo n =
-      (k : ℕ) (s : State) (slots : List ℕ) (u : Stage) → s .«max_stack» ≡ f .state .«max_stack» → s .«max_locals» ≡ f .state .«max_locals» → Framed (f .machine .runs) s (length slots) → length slots ≡ f .slots
+      (k : ℕ) (s : State) (slots : List ℕ) (u : Stage) → SameMethod s (f .state) → Framed (f .machine .runs) s (length slots) → length slots ≡ f .slots
       → stageFrom f (stageOf s slots) n ≡ some u
       → runFrom (f .machine) n k s slots ≡ record { state = moved s (u .pc) (u .depth) 0; steps = k + n; end = End.Stopped; slots = u .frame ++ zeroed (scratchFrom f (stageOf s slots) n) (beyond s slots) }
 
   one-more-run : (n : ℕ) → RunsTo n → RunsTo (suc n)
   unfolding RunsTo
-  one-more-run n ih k s slots u a b g long q = go (decideOn (f .machine) s slots .decision) refl
+  one-more-run n ih k s slots u m g long q = go (decideOn (f .machine) s slots .decision) refl
     where
       staged : decideOn (f .machine) s slots ≡ decisionAt f (stageOf s slots)
-      staged = decides f law s slots a b long
+      staged = decides f law s slots m long
 
       ends-here : next f (some (stageOf s slots)) ≡ none → ⊥
       ends-here e = let x = stage-none (stageOf s slots) e n in let z : _≡_ {A = ℕ} 0 1 = cc in omega arith
@@ -161,7 +161,7 @@ module _ (f : PlainWalk) (law : Lawful (f .machine)) where
           let shifted : stageFrom f (record { pc = v .pc; depth = v .depth; frame = written v (frame s slots) }) n ≡ some u = sym (stage-shift (stageOf s slots) t leads n) ∙ q in
           let steps : suc k + n ≡ k + suc n = omega arith in
           run-ordinary (f .machine) n k s slots v e
-          ∙ ih (suc k) (moved s (v .pc) (v .depth) 0) (cleared s (decideOn (f .machine) s slots .scratch) (written v slots)) u a b
+          ∙ ih (suc k) (moved s (v .pc) (v .depth) 0) (cleared s (decideOn (f .machine) s slots .scratch) (written v slots)) u (record { stacked = m .stacked; localed = m .localed; typed = m .typed })
           (rw n₂ (still-framed (f .machine .runs) s (length slots) v h 0)) (n₂ ∙ long) (rw at shifted)
           ∙ rw (at, beyond-cleared s (written v slots) w (decideOn (f .machine) s slots .scratch), drop-front slots (v .first) (v .many) (frameSize s) (updateWords v) (h .within) room (h .few), zeroed-twice, same, ← scratch-shift (stageOf s slots) t leads n, steps)
       go (Decision.Return v) e = absurd (ends-here (rw (sym (ap (λ (d : Decided). d .decision) staged) ∙ e)))
@@ -170,16 +170,16 @@ module _ (f : PlainWalk) (law : Lawful (f .machine)) where
 
   runs-to : (n : ℕ) → RunsTo n
   unfolding RunsTo runFrom stageFrom scratchFrom
-  runs-to zero k s slots u a b g long q =
+  runs-to zero k s slots u m g long q =
       let z : stageOf s slots ≡ u = cc in
       rw (← z, take-append-drop, add-zero)
-  runs-to (suc n) k s slots u a b g long q = one-more-run n (runs-to n) k s slots u a b g long q
+  runs-to (suc n) k s slots u m g long q = one-more-run n (runs-to n) k s slots u m g long q
 
 -- ---- the whole list
 
--- a state by its sizes and its count
-state-is : (s r : State) (n : ℕ) → r .«max_stack» ≡ s .«max_stack» → r .«max_locals» ≡ s .«max_locals» → r .count ≡ n → r ≡ moved s (r .pc) (r .depth) n
-state-is s r n a b c = rw (← a, ← b, ← c)
+-- a state of the same method by its count
+state-is : (s r : State) (n : ℕ) → SameMethod r s → r .count ≡ n → r ≡ moved s (r .pc) (r .depth) n
+state-is s r n m c = rw (← m .stacked, ← m .localed, ← m .typed, ← c)
 
 -- the plain walk that begins at a state and slots
 abbrev pub walkFrom : Machine → State → List ℕ → List ℕ → PlainWalk
@@ -193,8 +193,7 @@ module _ (x : Machine) (law : Lawful x) (s : State) (slots log : List ℕ) (g : 
     outside = refl;
     long = refl;
     counted = fresh;
-    stacked = refl;
-    localed = refl;
+    same-method = record { stacked = refl; localed = refl; typed = refl };
     roomy = refl;
     framed = g;
     reached = omega arith;
@@ -214,7 +213,7 @@ module _ (x : Machine) (law : Lawful x) (s : State) (slots log : List ℕ) (g : 
         sound = rw (r .answered) (no-14 f law presses 0);
         at-net = c .at-stage;
         difference = rw (r .answered) (tally f law presses 0 ∙ zero-add _);
-        sized = state-is s (w .state) net (c .stacked) (c .localed) (c .counted);
+        sized = state-is s (w .state) net (c .same-method) (c .counted);
         outside = c .outside;
-        ran = λ _. rw (frame-passed (x .runs) s (length slots) g) (runs-to f law net 0 s slots (stageOf (w .state) (w .slots)) refl refl g refl (c .at-stage) ∙ rw (zero-add, c .stacked, c .localed));
+        ran = λ _. rw (frame-passed (x .runs) s (length slots) g) (runs-to f law net 0 s slots (stageOf (w .state) (w .slots)) (record { stacked = refl; localed = refl; typed = refl }) g refl (c .at-stage) ∙ rw (zero-add, c .same-method .stacked, c .same-method .localed, c .same-method .typed));
       }

@@ -65,7 +65,7 @@ plainWalkBy rules sheet n p =
       machine = record { runs = sheetMethod sheet p n; decides = rules (sheetMethod sheet p n) };
       slots = n .slots;
       log = n .log;
-      state = loadedState (p .«max_stack») (p .«max_locals»);
+      state = loadedState (p .«max_stack») (p .«max_locals») (p .«return_type»);
       first = stage0 sheet p;
     }
 

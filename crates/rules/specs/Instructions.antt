@@ -13,7 +13,7 @@ use lib.Ieee.{binary32, binary64, ofInt, toSigned}
 use Rattle.values.specs.declared.Value.{Value}
 use Rattle.values.specs.declared.Value.the-variants as Value
 use Rattle.values.specs.Kinds.{int, long, float, double, reference}
-use Rattle.values.specs.Integers.{signed, low, _=ᶻ_, _<ᶻ_, _≤ᶻ_, −1, order, bitwise, and, or, xor, flipped}
+use Rattle.values.specs.Integers.{low, toByte, toChar, toShort, _=ᶻ_, _<ᶻ_, _≤ᶻ_, −1, order, bitwise, and, or, xor, flipped}
 use Rattle.values.specs.Floats.{orderOr, nearest}
 use Rattle.rules.specs.Forms.{Row, op, v1, v2, v3, v4, _⟶_on-bits_, _·_⟶_on-bits_, _⟶_is_, _·_⟶_is_, _÷_is_, _⇒_, _jumps-if_, _·_jumps-if_}
 use Rattle.rules.specs.Forms.{constant, immediate, from-pool, load, store, increment, jumps, switches, gives-back, gives-back-nothing, does-nothing}
@@ -156,9 +156,9 @@ instructions =
     op 142 "d2i" alone (double ⟶ int is toSigned 31) ∷
     op 143 "d2l" alone (double ⟶ long is toSigned 63) ∷
     op 144 "d2f" alone (double ⟶ float is nearest binary32) ∷
-    op 145 "i2b" alone (int ⟶ int is λ a. signed 7 (low 8 a)) ∷
-    op 146 "i2c" alone (int ⟶ int is λ a. pos (low 16 a)) ∷
-    op 147 "i2s" alone (int ⟶ int is λ a. signed 15 (low 16 a)) ∷
+    op 145 "i2b" alone (int ⟶ int is toByte) ∷
+    op 146 "i2c" alone (int ⟶ int is toChar) ∷
+    op 147 "i2s" alone (int ⟶ int is toShort) ∷
     -- Comparisons (2.11.3, 2.11.7)
     op 148 "lcmp" alone (long · long ⟶ int is order) ∷
     op 149 "fcmpl" alone (float · float ⟶ int is orderOr −1) ∷

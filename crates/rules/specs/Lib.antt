@@ -3,6 +3,8 @@ pub mod Forms
 pub mod Instructions
 pub mod Fetch
 pub mod Questions
+pub mod Descriptor
+pub mod Returns
 pub mod Step
 pub mod Run
 pub mod Sheet

@@ -1,16 +1,18 @@
 -- The sheet (RULES, 'The sheet'): its records, what is asked of each and of the lent memory, and what an accepted load fills and gives. Assumes nothing.
 use Prim.Native.Nat.{ℕ, zero, suc, _+_, _/_, _%_, _-_}
-use mathlib.Core.Bool.{Bool, _||_, cond}
+use mathlib.Core.Bool.{Bool, true, not, _||_, cond}
 use mathlib.Core.List.{List, [], _∷_, _++_}
 use lib.ListN.{length, take, drop, set, replicate}
+use Rattle.values.specs.Kinds.{placesOf}
 use Rattle.rules.specs.declared.State.{State}
 use Rattle.rules.specs.declared.Mark.{Mark}
-use Rattle.rules.specs.declared.Mark.the-variants.{LM, CD, KI, AR}
+use Rattle.rules.specs.declared.Mark.the-variants.{LM, DS, CD, KI, AR}
 use Rattle.rules.specs.declared.Reading.{Reading}
 use Rattle.rules.specs.declared.Load.the-variants as Load
 use Rattle.rules.specs.declared.Loaded.{Loaded}
 use Rattle.rules.specs.Check.{Check, passed, refused, _else_, _>>=_, _>>_, _≤ⁿ_, _<ⁿ_, _=ⁿ_}
 use Rattle.rules.specs.Fetch.{u8, u16, u32}
+use Rattle.rules.specs.Descriptor.{parameterKinds, returnType, descriptorCheck}
 
 -- ---- a record at an offset of the sheet: a mark of two ASCII bytes, the length of its body in 16 bits, the body
 
@@ -25,23 +27,32 @@ abbrev pub recordEnd : List ℕ → ℕ → ℕ
 recordEnd sheet at = bodyAt at + bodyLength sheet at
 
 abbrev pub knownMark : ℕ → Check Mark
-knownMark n = cond (n =ⁿ 0x4C4D) (passed LM) (cond (n =ⁿ 0x4344) (passed CD) (cond (n =ⁿ 0x4B49) (passed KI) (cond (n =ⁿ 0x4152) (passed AR) (refused 22))))
+knownMark n =
+    cond (n =ⁿ 0x4C4D) (passed LM)
+    (cond (n =ⁿ 0x4453) (passed DS)
+    (cond (n =ⁿ 0x4344) (passed CD)
+    (cond (n =ⁿ 0x4B49) (passed KI)
+    (cond (n =ⁿ 0x4152) (passed AR)
+    (refused 22)))))
 
--- the order: LM, CD, any number of KI, AR. The last record's mark is known by its number, 0 before the first record
+-- the order: LM, at most one DS, CD, any number of KI, AR. The last record's mark is known by its number, 0 before the first record
 abbrev pub markNumber : Mark → ℕ
 markNumber LM = 1
-markNumber CD = 2
-markNumber KI = 3
-markNumber AR = 4
+markNumber DS = 2
+markNumber CD = 3
+markNumber KI = 4
+markNumber AR = 5
 
 abbrev pub follows : Mark → ℕ → Bool
 follows LM last = last =ⁿ 0
-follows CD last = last =ⁿ markNumber LM
+follows DS last = last =ⁿ markNumber LM
+follows CD last = (last =ⁿ markNumber LM) || (last =ⁿ markNumber DS)
 follows KI last = (last =ⁿ markNumber CD) || (last =ⁿ markNumber KI)
 follows AR last = (last =ⁿ markNumber CD) || (last =ⁿ markNumber KI)
 
 abbrev pub rightLength : Mark → ℕ → Bool
 rightLength LM n = n =ⁿ 4
+rightLength DS n = true
 rightLength CD n = 1 ≤ⁿ n
 rightLength KI n = (n =ⁿ 7) || (n =ⁿ 11)
 rightLength AR n = n % 4 =ⁿ 0
@@ -54,6 +65,10 @@ limitStack sheet at = u16 sheet (bodyAt at)
 
 abbrev pub limitLocals : List ℕ → ℕ → ℕ
 limitLocals sheet at = u16 sheet (bodyAt at + 2)
+
+-- DS: the method descriptor
+abbrev pub descriptorAt : List ℕ → ℕ → List ℕ
+descriptorAt sheet at = take (bodyLength sheet at) (drop (bodyAt at) sheet)
 
 -- KI: pool index, tag, value. A long or a double uses two indices
 abbrev pub poolIndex : List ℕ → ℕ → ℕ
@@ -80,7 +95,19 @@ argumentCount sheet at = bodyLength sheet at / 4
 
 -- nothing yet
 abbrev pub unread : Reading
-unread = record { last = 0; «max_stack» = 0; «max_locals» = 0; code = 0; «code_length» = 0; used = 0; arguments = 0; «argument_count» = 0 }
+unread =
+    record {
+      last = 0;
+      «max_stack» = 0;
+      «max_locals» = 0;
+      «parameter_places» = 0;
+      «return_type» = 0;
+      code = 0;
+      «code_length» = 0;
+      used = 0;
+      arguments = 0;
+      «argument_count» = 0;
+    }
 
 -- what a record of this mark says, where it is such a record, and else what was known
 abbrev pub by : Mark → Mark → ℕ → ℕ → ℕ
@@ -93,6 +120,8 @@ withRecord sheet at m p =
       last = markNumber m;
       «max_stack» = by LM m (limitStack sheet at) (p .«max_stack»);
       «max_locals» = by LM m (limitLocals sheet at) (p .«max_locals»);
+      «parameter_places» = by DS m (placesOf (parameterKinds (descriptorAt sheet at))) (p .«parameter_places»);
+      «return_type» = by DS m (returnType (descriptorAt sheet at)) (p .«return_type»);
       code = by CD m (bodyAt at) (p .code);
       «code_length» = by CD m (bodyLength sheet at) (p .«code_length»);
       used = by KI m (lastIndex sheet at) (p .used);
@@ -100,17 +129,25 @@ withRecord sheet at m p =
       «argument_count» = by AR m (argumentCount sheet at) (p .«argument_count»);
     }
 
--- KI: tag suits length, index above 0 and all used, a long's second at most 65,535? 25. AR: arguments at most max_locals? 27
+-- a DS record was read: no return type is 0
+abbrev pub isDescribed : Reading → Bool
+isDescribed p = 0 <ⁿ p .«return_type»
+
+-- DS: a method descriptor? 31. KI: tag suits length, index above 0 and all used, a long's second at most 65,535? 25. AR: arguments at most max_locals? 27; as many as
+-- the descriptor's parameters take, if there is one? 31
 unfoldable pub contentsCheck : List ℕ → ℕ → Reading → Mark → Check (Unit {0})
 contentsCheck sheet at p LM = passed tt
+contentsCheck sheet at p DS = descriptorCheck (descriptorAt sheet at)
 contentsCheck sheet at p CD = passed tt
 contentsCheck sheet at p KI = do
   tagSuits (poolTag sheet at) (bodyLength sheet at) else 25
   p .used <ⁿ poolIndex sheet at else 25
   lastIndex sheet at ≤ⁿ 65535 else 25
-contentsCheck sheet at p AR = argumentCount sheet at ≤ⁿ p .«max_locals» else 27
+contentsCheck sheet at p AR = do
+  argumentCount sheet at ≤ⁿ p .«max_locals» else 27
+  not (isDescribed p) || (argumentCount sheet at =ⁿ p .«parameter_places») else 31
 
--- order as above? 23. Length right? 24. Then 25 or 27
+-- order as above? 23. Length right? 24. Then 25, 27 or 31
 unfoldable pub markedCheck : List ℕ → ℕ → Reading → Mark → Check Reading
 markedCheck sheet at p m = do
   follows m (p .last) else 23
@@ -118,7 +155,7 @@ markedCheck sheet at p m = do
   contentsCheck sheet at p m
   passed (withRecord sheet at m p)
 
--- four bytes and the body present? 21. Mark known? 22. Then 23 to 27
+-- four bytes and the body present? 21. Mark known? 22. Then 23 to 27 and 31
 unfoldable pub recordCheck : List ℕ → ℕ → Reading → Check Reading
 recordCheck sheet at p = do
   bodyAt at ≤ⁿ length sheet else 21
@@ -202,8 +239,8 @@ loadedFrame sheet p = argumentsFrom sheet (p .arguments) (p .«argument_count»)
 abbrev pub loadedSlots : List ℕ → Reading → List ℕ → List ℕ
 loadedSlots sheet p slots = loadedFrame sheet p ++ drop (p .«max_locals» + p .«max_stack») slots
 
-abbrev pub loadedState : ℕ → ℕ → State
-loadedState stack locals = record { «max_stack» = stack; «max_locals» = locals; pc = 0; depth = 0; count = 0 }
+abbrev pub loadedState : ℕ → ℕ → ℕ → State
+loadedState stack locals type = record { «max_stack» = stack; «max_locals» = locals; pc = 0; depth = 0; count = 0; «return_type» = type }
 
 -- ---- the load
 
@@ -215,11 +252,17 @@ pub record AfterLoad : Type 0 where
   pub words : List ℕ
 
 abbrev pub acceptedLoad : Reading → Loaded
-acceptedLoad p = record { answer = Load.Accepted; state = loadedState (p .«max_stack») (p .«max_locals»); code = p .code; «code_length» = p .«code_length» }
+acceptedLoad p =
+    record {
+      answer = Load.Accepted;
+      state = loadedState (p .«max_stack») (p .«max_locals») (p .«return_type»);
+      code = p .code;
+      «code_length» = p .«code_length»;
+    }
 
 -- its number, a state of zeros and the empty part at the sheet's start
 abbrev pub refusedLoad : ℕ → Loaded
-refusedLoad n = record { answer = Load.Refused n; state = loadedState 0 0; code = 0; «code_length» = 0 }
+refusedLoad n = record { answer = Load.Refused n; state = loadedState 0 0 0; code = 0; «code_length» = 0 }
 
 abbrev pub loadBy : List ℕ → List ℕ → List ℕ → List ℕ → Check Reading → AfterLoad
 loadBy sheet slots kinds words (passed p) =

@@ -13,6 +13,7 @@ use Rattle.rules.specs.declared.Decision.the-variants.{Ordinary, Return,
 use Rattle.rules.specs.Check.{Check, passed, refused, _else_, _>>=_, _>>_, _<ⁿ_, _=ⁿ_}
 use Rattle.rules.specs.Forms.{Result, pushes, stores, divides, branches, returns, Source, stack, local, pool}
 use Rattle.rules.specs.Fetch.{Instruction, fetched}
+use Rattle.rules.specs.Returns.{returned}
 use Rattle.rules.specs.Questions.{Method, method, frameSize, popped, pushed, frameCheck, needsCheck}
 
 -- ---- the words that an instruction works on
@@ -77,13 +78,15 @@ following s i = pos (s .pc + i .size)
 abbrev pub target : State → ℤ → ℤ
 target s z = pos (s .pc) +ℤ z
 
--- all that it pushes, from its first place on the stack on; or the local stored. A return or a zero divisor ends before question 10
+-- all that it pushes, from its first place on the stack on; or the local stored. A return, with question 32, or a zero divisor ends before question 10
 abbrev pub outcome : Method → State → Instruction → Result → Check Decision
 outcome l s i (pushes ws) = ordinary l s i (following s i) (base s i) (pushed i) ws
 outcome l s i (stores ws) = ordinary l s i (following s i) (i .operand .index) (placesOf (i .rule .locals)) ws
 outcome l s i (divides by ws) = cond (by =ⁿ 0) (passed Throw) (ordinary l s i (following s i) (base s i) (pushed i) ws)
 outcome l s i (branches t z) = ordinary l s i (cond t (target s z) (following s i)) 0 0 []
-outcome l s i (returns v) = passed (Return v)
+outcome l s i (returns v) = do
+  r ← returned (s .«return_type») v
+  passed (Return r)
 
 abbrev pub decision : Check Decision → Decision
 decision (passed d) = d
@@ -133,7 +136,15 @@ machine code kinds words = coreMachine (method code kinds words)
 
 -- the state at another offset, depth and count
 abbrev pub moved : State → ℕ → ℕ → ℕ → State
-moved s pc depth count = record { «max_stack» = s .«max_stack»; «max_locals» = s .«max_locals»; pc = pc; depth = depth; count = count }
+moved s pc depth count =
+    record {
+      «max_stack» = s .«max_stack»;
+      «max_locals» = s .«max_locals»;
+      pc = pc;
+      depth = depth;
+      count = count;
+      «return_type» = s .«return_type»;
+    }
 
 abbrev pub updateWords : Update → List ℕ
 updateWords u = u .w0 ∷ u .w1 ∷ u .w2 ∷ u .w3 ∷ u .w4 ∷ u .w5 ∷ []

@@ -1,13 +1,15 @@
 // The types that the rules speak of; the rules themselves are in specs/.
 use values::Value;
 
-// Where a method stands: its two sizes, the program counter, the operand stack's depth, and how many steps can be taken back.
+// Where a method stands: its two sizes, the program counter, the operand stack's depth, how many steps can be taken back, and the method's return type, a character
+// of its descriptor; a number that is no return type's counts as 0.
 pub struct State {
     pub max_stack: u16,
     pub max_locals: u16,
     pub pc: u32,
     pub depth: u32,
     pub count: u64,
+    pub return_type: u32,
 }
 
 // What an ordinary step changes: the next program counter and depth, and the first `many` of six words, written from place `first` on.
@@ -58,17 +60,20 @@ pub enum End {
 // The marks of a sheet's records.
 pub enum Mark {
     LM,
+    DS,
     CD,
     KI,
     AR,
 }
 
-// What has been read of a sheet: the number of the last record's mark, the method's sizes, where its code begins in the sheet and how long it is, the highest
-// pool index used, and where the argument words begin and how many there are.
+// What has been read of a sheet: the number of the last record's mark, the method's sizes, its parameters' places and its return type, both 0 without a descriptor,
+// where its code begins in the sheet and how long it is, the highest pool index used, and where the argument words begin and how many there are.
 pub struct Reading {
     pub last: u32,
     pub max_stack: u16,
     pub max_locals: u16,
+    pub parameter_places: u32,
+    pub return_type: u32,
     pub code: usize,
     pub code_length: usize,
     pub used: u32,

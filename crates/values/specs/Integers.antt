@@ -16,6 +16,16 @@ unfoldable pub low : ℕ → ℤ → ℕ
 low w (pos n) = n % 2 ^ w
 low w (negsuc n) = 2 ^ w - suc (n % 2 ^ w)
 
+-- the low 8 or 16 bits, with their sign, and as a char without (2.11.4)
+abbrev pub toByte : ℤ → ℤ
+toByte a = signed 7 (low 8 a)
+
+abbrev pub toChar : ℤ → ℤ
+toChar a = pos (low 16 a)
+
+abbrev pub toShort : ℤ → ℤ
+toShort a = signed 15 (low 16 a)
+
 -- ---- order
 
 infix 4 _=ᶻ_ _<ᶻ_ _≤ᶻ_
