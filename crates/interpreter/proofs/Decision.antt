@@ -7,6 +7,7 @@ use lib.Dec.{eqb}
 use lib.IntN.{ℤ}
 use lib.ListN.{length, take}
 use borrow.Author.Tests.{eqb-true}
+use Rattle.values.specs.declared.Value.{Value}
 use Rattle.values.specs.Kinds.{int, placesOf}
 use Rattle.values.specs.Integers.{signed, low}
 use Rattle.values.specs.Words.{meaning}
@@ -17,6 +18,7 @@ use Rattle.rules.specs.Check.{Check, passed, refused, _>>=_}
 use Rattle.rules.specs.Forms.{Rule, Operand, Result, offsetFor, pushes, stores, divides, branches, returns}
 use Rattle.rules.specs.Instructions.{rowOf}
 use Rattle.rules.specs.Fetch.{Instruction, operands, fetched}
+use Rattle.rules.specs.Returns.{returned}
 use Rattle.rules.specs.Questions.{Method, popped, pushed, frameCheck, needsCheck}
 use Rattle.rules.specs.Step.{frame, base, wordsAt, update, inside, ordinary, following, target, outcome, decision, decideOf}
 use Rattle.rules.proofs.Rows.{works}
@@ -32,7 +34,7 @@ use Rattle.effects.specs.Families.{sharedOpcodes}
 use Rattle.effects.proofs.OwnRow.{own-effect, shared-listed}
 use Rattle.frame.proofs.Needs.{Stands, pushed-in, locals-in}
 use Rattle.interpreter.specs.declared.finishing.Located.{Located}
-use Rattle.interpreter.specs.Stages.{locatedOf, ordinaryTo, offsetAt, branchOf, finishOf}
+use Rattle.interpreter.specs.Stages.{locatedOf, ordinaryTo, offsetAt, branchOf, returnOf, finishOf}
 use Rattle.interpreter.proofs.Results.{doesFour, isStore, row-stores, offsetBy, offsetOf, row-offset, row-table, row-pairs}
 
 -- ---- what a result comes to
@@ -46,6 +48,14 @@ module _ (l : Method) (s : State) (i : Instruction) where
       go (passed pc) = refl
       go (refused n) = refl
 
+  returned-is : (t : ℕ) (v : Value) → returnOf (returned t v) ≡ decision (returned t v >>= λ r. passed (Decision.Return r))
+  unfolding _>>=_
+  returned-is t v = go (returned t v)
+    where
+      go : (x : Check Value) → returnOf x ≡ decision (x >>= λ r. passed (Decision.Return r))
+      go (passed r) = refl
+      go (refused n) = refl
+
   -- a located instruction is this one, if it stores where `store` says and branches by z on a key
   record Locates (i′ : Located) (store : Bool) (z : ℤ) (key : ℕ) : Type 0 where
     next : i′ .next ≡ s .pc + i .size
@@ -55,17 +65,17 @@ module _ (l : Method) (s : State) (i : Instruction) where
     offset : offsetAt (l .code) (s .pc) (i′ .op) (i′ .constant) key ≡ z
 
   module _ (i′ : Located) (key : ℕ) (z : ℤ) where
-    finished-by : (r : Result) → Locates i′ (isStore r) (offsetBy z r) key → finishOf (l .code) (s .pc) i′ key (effectOf r) ≡ decision (outcome l s i r)
+    finished-by : (r : Result) → Locates i′ (isStore r) (offsetBy z r) key → finishOf (l .code) (s .pc) (s .«return_type») i′ key (effectOf r) ≡ decision (outcome l s i r)
     unfolding finishOf branchOf
     finished-by (pushes ws) h = rw (h .next, h .deep, h .first, h .many) (sym (ordinary-is (following s i) (base s i) (pushed i) ws))
     finished-by (stores ws) h = rw (h .next, h .deep, h .first, h .many) (sym (ordinary-is (following s i) (i .operand .index) (placesOf (i .rule .locals)) ws))
     finished-by (divides by ws) h = go (eqb by 0)
       where
-        go : (t : Bool) → finishOf (l .code) (s .pc) i′ key (cond t Effect.Throw (Effect.Words (six ws))) ≡ decision (cond t (passed Decision.Throw) (ordinary l s i (following s i) (base s i) (pushed i) ws))
+        go : (t : Bool) → finishOf (l .code) (s .pc) (s .«return_type») i′ key (cond t Effect.Throw (Effect.Words (six ws))) ≡ decision (cond t (passed Decision.Throw) (ordinary l s i (following s i) (base s i) (pushed i) ws))
         go true = refl
         go false = rw (h .next, h .deep, h .first, h .many) (sym (ordinary-is (following s i) (base s i) (pushed i) ws))
     finished-by (branches t y) h = rw (h .next, h .deep, h .offset) (sym (ordinary-is (cond t (target s y) (following s i)) 0 0 []))
-    finished-by (returns v) h = refl
+    finished-by (returns v) h = returned-is (s .«return_type») v
 
 -- ---- an instruction that is fetched
 
@@ -117,14 +127,14 @@ module _ (l : Method) (s : State) (i : Instruction) (f : Sound (l .code) (s .pc)
     -- once four words are what it works on
     module _ (slots : List ℕ) (framed : frameCheck l s (length slots) ≡ passed tt) (at : fetched (l .code) (s .pc) ≡ passed i) (needed : needsCheck l s i ≡ passed tt) where
       pub from-words : (a b c d : ℕ) → wordsAt (i .rule .reads) l s (frame s slots) i ≡ take (works (i .rule)) (a ∷ b ∷ c ∷ d ∷ [])
-          → finishOf (l .code) (s .pc) (locatedAt s i first depth) a (effectAt (sharedIn (entryAt i)) (low 32 (i .operand .constant)) a b c d) ≡ decideOf l s slots
+          → finishOf (l .code) (s .pc) (s .«return_type») (locatedAt s i first depth) a (effectAt (sharedIn (entryAt i)) (low 32 (i .operand .constant)) a b c d) ≡ decideOf l s slots
       from-words a b c d w =
           let same : result l s (frame s slots) i ≡ doesFour (f .row) (i .operand) a b c d =
           ap (i .rule .does (i .operand)) w ∙ ap (λ (r : Rule). r .does (i .operand) (take (works r) (a ∷ b ∷ c ∷ d ∷ []))) (f .ruled) in
           let own : effectAt (sharedIn (entryAt i)) (low 32 (i .operand .constant)) a b c d ≡ effectOf (doesFour (f .row) (i .operand) a b c d) =
           rw shared-is (sym (own-effect (i .opcode) (f .row) (f .found) (i .operand .index) (low 32 (i .operand .constant)) (i .operand .pairs) a b c d)
           ∙ ap (λ (o : Operand). effectOf (doesFour (f .row) o a b c d)) operand-is) in
-          ap (finishOf (l .code) (s .pc) (locatedAt s i first depth) a) own
+          ap (finishOf (l .code) (s .pc) (s .«return_type») (locatedAt s i first depth) a) own
           ∙ finished-by l s i (locatedAt s i first depth) a (i .operand .constant) (doesFour (f .row) (i .operand) a b c d) (located a b c d)
           ∙ ap (λ (r : Result). decision (outcome l s i r)) (sym same)
           ∙ sym (decided l (length slots) s (frame s slots) framed i at needed)

@@ -1,4 +1,4 @@
-// One step, decided with nothing written: questions 1 to 10 in their order, and what the instruction does.
+// One step, decided with nothing written: questions 1 to 10 and 32 in their order, and what the instruction does.
 use crate::finishing::Located;
 use crate::finishing::finish;
 use crate::finishing::locate;
@@ -24,30 +24,31 @@ ghost use Rattle.rules.specs.Questions.{method, frameCheck};
 ghost use Rattle.rules.specs.Step.{decideOf};
 ghost use Rattle.interpreter.specs.Stages.{locatedDecision};
 
-// Question 9, what the instruction does, and question 10.
+// Question 9, what the instruction does, and question 10, or 32 of a return.
 fn decide_located(
     code: &[u8],
     kinds: &[u8],
     words: &[u32],
     slots: &[u32],
     pc: u32,
+    return_type: u32,
     i: Located,
 ) -> Decision
     requires { ⌜ length (now code) ≤ 65535 ⌝ }
     requires { ⌜ isIn sharedOpcodes (i .op) ≡ true ⌝ }
-    ensures { λ r. ⌜ r ≡ locatedDecision (method (now (code .entry)) (now (kinds .entry)) (now (words .entry))) (now (slots .entry)) pc i ⌝ }
+    ensures { λ r. ⌜ r ≡ locatedDecision (method (now (code .entry)) (now (kinds .entry)) (now (words .entry))) (now (slots .entry)) pc «return_type» i ⌝ }
 {
     let read = read_words(kinds, words, slots, i.op, i.index, i.base);
     match read {
         Read::Refused(n) => Decision::Refused(n),
         Read::Words(w) => {
             let does = effect(i.op, i.constant, w.a, w.b, w.c, w.d);
-            finish(code, pc, i, w.a, does)
+            finish(code, pc, return_type, i, w.a, does)
         }
     }
 }
 
-// Questions 4 to 10, where questions 1 to 3 have passed.
+// Questions 4 to 10 and 32, where questions 1 to 3 have passed.
 pub(crate) fn decide_framed(
     code: &[u8],
     kinds: &[u8],
@@ -74,7 +75,7 @@ pub(crate) fn decide_framed(
                 Placed::At { base, depth } => {
                     let next = pc as usize + size;
                     let i = locate(entry, index, constant, next, base, depth);
-                    decide_located(code, kinds, words, slots, pc, i)
+                    decide_located(code, kinds, words, slots, pc, s.return_type, i)
                 }
             }
         }

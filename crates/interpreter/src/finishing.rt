@@ -1,4 +1,5 @@
-// What a step comes to, from what its instruction does: the next offset, with question 10, and where the words go.
+// What a step comes to, from what its instruction does: the next offset, with question 10, and where the words go; or what a return gives back.
+use crate::returning::give_back;
 use effects::Effect;
 use effects::Six;
 use instructions::locals_in;
@@ -162,9 +163,16 @@ fn branch(code: &[u8], pc: u32, i: Located, key: u32, taken: bool) -> Decision
 }
 
 // What the step comes to, of what its instruction does; `key` is the first word that it works on.
-pub(crate) fn finish(code: &[u8], pc: u32, i: Located, key: u32, does: Effect) -> Decision
+pub(crate) fn finish(
+    code: &[u8],
+    pc: u32,
+    return_type: u32,
+    i: Located,
+    key: u32,
+    does: Effect,
+) -> Decision
     requires { ⌜ length (now code) ≤ 65535 ⌝ }
-    ensures { λ r. ⌜ r ≡ finishOf (now (code .entry)) pc i key does ⌝ }
+    ensures { λ r. ⌜ r ≡ finishOf (now (code .entry)) pc «return_type» i key does ⌝ }
 {
     match does {
         Effect::Words(w) => {
@@ -173,6 +181,6 @@ pub(crate) fn finish(code: &[u8], pc: u32, i: Located, key: u32, does: Effect) -
         }
         Effect::Throw => Decision::Throw,
         Effect::Branch(taken) => branch(code, pc, i, key, taken),
-        Effect::Return(v) => Decision::Return(v),
+        Effect::Return(v) => give_back(return_type, v),
     }
 }

@@ -3,6 +3,7 @@ mod advancing;
 mod deciding;
 mod finishing;
 mod reading;
+mod returning;
 mod running;
 mod stepping;
 

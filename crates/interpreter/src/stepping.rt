@@ -23,6 +23,7 @@ pub fn moved(s: State, pc: u32, depth: u32, count: u64) -> State
         pc,
         depth,
         count,
+        return_type: s.return_type,
     }
 }
 

@@ -6,6 +6,7 @@ pub mod Step
 pub mod Fetched
 pub mod Legal
 pub mod Answers
+pub mod Returns
 pub mod Numbers
 pub mod Lawful
 pub mod Run

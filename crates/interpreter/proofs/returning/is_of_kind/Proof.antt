@@ -1,0 +1,61 @@
+-- `is_of_kind` meets its contract. Assumes nothing.
+use borrow.Author.Needs.{needs}
+use Rattle.interpreter.proofs.returning.is_of_kind.Statement.{statement}
+use Rattle.interpreter.proofs.returning.is_of_kind.Tie as tie
+
+enum-told : tie.Need-enum-told
+enum-told c = search needs
+
+enum-told-2 : tie.Need-enum-told-2
+enum-told-2 c = search needs
+
+takes-int-requires : tie.Need-takes-int-requires
+takes-int-requires c κs = search needs
+
+enum-told-3 : tie.Need-enum-told-3
+enum-told-3 c = search needs
+
+enum-told-4 : tie.Need-enum-told-4
+enum-told-4 c = search needs
+
+enum-told-5 : tie.Need-enum-told-5
+enum-told-5 c = search needs
+
+enum-told-6 : tie.Need-enum-told-6
+enum-told-6 c = search needs
+
+returns : tie.Need-returns
+returns c = simp (c .enum-told .given .1)
+
+returns-2 : tie.Need-returns-2
+returns-2 c = simp (c .before .enum-told2 .given .1, ← c .takes-int .ensures)
+
+returns-3 : tie.Need-returns-3
+returns-3 c = simp (c .enum-told3 .given .1)
+
+returns-4 : tie.Need-returns-4
+returns-4 c = simp (c .enum-told4 .given .1)
+
+returns-5 : tie.Need-returns-5
+returns-5 c = simp (c .enum-told5 .given .1)
+
+returns-6 : tie.Need-returns-6
+returns-6 c = simp (c .enum-told6 .given .1)
+
+pub is-of-kind-spec : {M : Type 1} → statement M
+is-of-kind-spec =
+    tie.close
+    (tie.spec
+    enum-told
+    enum-told-2
+    takes-int-requires
+    enum-told-3
+    enum-told-4
+    enum-told-5
+    enum-told-6
+    returns
+    returns-2
+    returns-3
+    returns-4
+    returns-5
+    returns-6)
