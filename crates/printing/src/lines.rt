@@ -34,5 +34,6 @@ pub fn print_state(s: State) {
     print_number(s.pc as u64);
     print_number(s.depth as u64);
     print_number(s.count);
+    print_number(s.return_type as u64);
     print(b"\n");
 }

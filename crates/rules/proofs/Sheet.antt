@@ -13,7 +13,7 @@ use Rattle.rules.specs.declared.Reading.{Reading}
 use Rattle.rules.specs.Check.{Check, passed, refused, _else_, _>>=_, _>>_}
 use Rattle.rules.specs.Fetch.{u8, u16}
 use Rattle.rules.specs.Descriptor.{descriptorCheck}
-use Rattle.rules.specs.Sheet.{bodyLength, bodyAt, recordEnd, knownMark, follows, rightLength, descriptorAt, unread, isDescribed, withRecord, poolIndex, poolTag, tagSuits, lastIndex, argumentCount, contentsCheck, markedCheck, recordCheck, endCheck, readFrom, sheetCheck, Pool, withValue, poolFrom, loadedPool, loadedSlots, acceptedLoad, refusedLoad, memoryCheck, loadOf}
+use Rattle.rules.specs.Sheet.{bodyLength, bodyAt, recordEnd, knownMark, follows, rightLength, descriptorAt, unread, isDescribed, withRecord, poolIndex, poolTag, tagSuits, lastIndex, argumentCount, contentsCheck, contentsRead, markedCheck, recordCheck, endCheck, readFrom, sheetCheck, Pool, withValue, poolFrom, loadedPool, loadedSlots, acceptedLoad, refusedLoad, memoryCheck, loadOf}
 use Rattle.rules.proofs.Check.{first-passed, Holds, asked, after, bound, held, either, bind-same, Any, Numbered, last-numbered, after-numbered, bound-numbered, asked-numbered, either-numbered, refused-numbered}
 
 -- ---- a record, question by question
@@ -50,14 +50,17 @@ module _ (sheet : List ℕ) (at : ℕ) (p : Reading) where
       unfolding markedCheck _else_ _>>_
       wrong-length h = simp (ordered, h)
 
-      module _ (right : rightLength m (bodyLength sheet at) ≡ true) where
-        pub bad-contents : (k : ℕ) → contentsCheck sheet at p m ≡ refused k → markedCheck sheet at p m ≡ refused k
-        unfolding markedCheck _else_ _>>_
-        bad-contents k h = simp (ordered, right, h)
+      pub read-on : rightLength m (bodyLength sheet at) ≡ true → markedCheck sheet at p m ≡ contentsRead sheet at p m
+      unfolding markedCheck _else_ _>>_
+      read-on h = simp (ordered, h)
 
-        pub good-contents : contentsCheck sheet at p m ≡ passed tt → markedCheck sheet at p m ≡ passed (withRecord sheet at m p)
-        unfolding markedCheck _else_ _>>_
-        good-contents h = simp (ordered, right, h)
+    pub bad-contents : (k : ℕ) → contentsCheck sheet at p m ≡ refused k → contentsRead sheet at p m ≡ refused k
+    unfolding _>>_
+    bad-contents k h = simp h
+
+    pub good-contents : contentsCheck sheet at p m ≡ passed tt → contentsRead sheet at p m ≡ passed (withRecord sheet at m p)
+    unfolding _>>_
+    good-contents h = simp h
 
   -- 25
   pub tag-unfit : tagSuits (poolTag sheet at) (bodyLength sheet at) ≡ false → contentsCheck sheet at p KI ≡ refused 25

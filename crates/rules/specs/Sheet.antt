@@ -147,13 +147,17 @@ contentsCheck sheet at p AR = do
   argumentCount sheet at ≤ⁿ p .«max_locals» else 27
   not (isDescribed p) || (argumentCount sheet at =ⁿ p .«parameter_places») else 31
 
+abbrev pub contentsRead : List ℕ → ℕ → Reading → Mark → Check Reading
+contentsRead sheet at p m = do
+  contentsCheck sheet at p m
+  passed (withRecord sheet at m p)
+
 -- order as above? 23. Length right? 24. Then 25, 27 or 31
 unfoldable pub markedCheck : List ℕ → ℕ → Reading → Mark → Check Reading
 markedCheck sheet at p m = do
   follows m (p .last) else 23
   rightLength m (bodyLength sheet at) else 24
-  contentsCheck sheet at p m
-  passed (withRecord sheet at m p)
+  contentsRead sheet at p m
 
 -- four bytes and the body present? 21. Mark known? 22. Then 23 to 27 and 31
 unfoldable pub recordCheck : List ℕ → ℕ → Reading → Check Reading

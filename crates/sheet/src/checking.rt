@@ -19,6 +19,8 @@ fn unread() -> Reading
         last: 0,
         max_stack: 0,
         max_locals: 0,
+        parameter_places: 0,
+        return_type: 0,
         code: 0,
         code_length: 0,
         used: 0,

@@ -1,5 +1,6 @@
 // The sheet: a file that holds one method with its constants and arguments, checked whole and then filled into lent memory.
 mod checking;
+mod contents;
 mod filling;
 mod loading;
 mod marks;

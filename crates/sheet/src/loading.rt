@@ -14,8 +14,8 @@ ghost use Rattle.rules.specs.Sheet.{sheetCheck, loadedState, acceptedLoad, refu
 ghost use Rattle.sheet.specs.Filled.{afterLoad};
 
 // The state of a method that is loaded. Every first state is made here.
-pub fn loaded_state(max_stack: u16, max_locals: u16) -> State
-    ensures { λ r. ⌜ r ≡ loadedState «max_stack» «max_locals» ⌝ }
+pub fn loaded_state(max_stack: u16, max_locals: u16, return_type: u32) -> State
+    ensures { λ r. ⌜ r ≡ loadedState «max_stack» «max_locals» «return_type» ⌝ }
 {
     State {
         max_stack,
@@ -23,6 +23,7 @@ pub fn loaded_state(max_stack: u16, max_locals: u16) -> State
         pc: 0,
         depth: 0,
         count: 0,
+        return_type,
     }
 }
 
@@ -32,7 +33,7 @@ fn refused_load(number: u32) -> Loaded
 {
     Loaded {
         answer: Load::Refused(number),
-        state: loaded_state(0, 0),
+        state: loaded_state(0, 0, 0),
         code: 0,
         code_length: 0,
     }
@@ -44,7 +45,7 @@ fn accepted_load(p: Reading) -> Loaded
 {
     Loaded {
         answer: Load::Accepted,
-        state: loaded_state(p.max_stack, p.max_locals),
+        state: loaded_state(p.max_stack, p.max_locals, p.return_type),
         code: p.code,
         code_length: p.code_length,
     }

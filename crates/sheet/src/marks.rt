@@ -1,11 +1,13 @@
 // The marks of a sheet's records: which they are, which may follow which, and the lengths that they allow.
 use rules::Mark;
 ghost use mathlib.Core.Path.{_≡_};
-ghost use Rattle.rules.specs.Sheet.{tagSuits, knownMark, markNumber, follows, rightLength};
+ghost use Rattle.rules.specs.Sheet.{tagSuits, knownMark, follows, rightLength};
 ghost use Rattle.sheet.specs.Records.{markAnswer};
 
 // The marks in ASCII.
 const LM: u16 = 0x4C4D;
+
+const DS: u16 = 0x4453;
 
 const CD: u16 = 0x4344;
 
@@ -16,13 +18,15 @@ const AR: u16 = 0x4152;
 // The last record's mark, by its number.
 const NO_RECORD: u32 = 0;
 
-const AFTER_LM: u32 = 1;
+pub(crate) const AFTER_LM: u32 = 1;
 
-const AFTER_CD: u32 = 2;
+pub(crate) const AFTER_DS: u32 = 2;
 
-const AFTER_KI: u32 = 3;
+pub(crate) const AFTER_CD: u32 = 3;
 
-pub(crate) const AFTER_AR: u32 = 4;
+pub(crate) const AFTER_KI: u32 = 4;
+
+pub(crate) const AFTER_AR: u32 = 5;
 
 // The body of a KI record with a value of one word, and of two.
 const NARROW_CONSTANT: u16 = 7;
@@ -51,6 +55,9 @@ pub(crate) fn known_mark(bytes: u16) -> Known
     if bytes == LM {
         return Known::Mark(Mark::LM);
     }
+    if bytes == DS {
+        return Known::Mark(Mark::DS);
+    }
     if bytes == CD {
         return Known::Mark(Mark::CD);
     }
@@ -63,25 +70,14 @@ pub(crate) fn known_mark(bytes: u16) -> Known
     Known::Refused(22)
 }
 
-// The number by which a mark is known afterwards.
-pub(crate) fn mark_number(mark: Mark) -> u32
-    ensures { λ r. ⌜ r ≡ markNumber mark ⌝ }
-{
-    match mark {
-        Mark::LM => AFTER_LM,
-        Mark::CD => AFTER_CD,
-        Mark::KI => AFTER_KI,
-        Mark::AR => AFTER_AR,
-    }
-}
-
 // Whether a record may come after the last one.
 pub(crate) fn may_follow(mark: Mark, last: u32) -> bool
     ensures { λ r. ⌜ r ≡ follows mark last ⌝ }
 {
     match mark {
         Mark::LM => last == NO_RECORD,
-        Mark::CD => last == AFTER_LM,
+        Mark::DS => last == AFTER_LM,
+        Mark::CD => last == AFTER_LM || last == AFTER_DS,
         Mark::KI => last == AFTER_CD || last == AFTER_KI,
         Mark::AR => last == AFTER_CD || last == AFTER_KI,
     }
@@ -93,6 +89,7 @@ pub(crate) fn right_length(mark: Mark, size: u16) -> bool
 {
     match mark {
         Mark::LM => size == 4,
+        Mark::DS => true,
         Mark::CD => 1 <= size,
         Mark::KI => size == NARROW_CONSTANT || size == WIDE_CONSTANT,
         Mark::AR => size % 4 == 0,

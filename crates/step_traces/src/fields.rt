@@ -3,7 +3,7 @@ use rules::State;
 ghost use Prim.Native.Nat.{_+_, _*_, _≤_};
 
 // A line, its line feed included.
-pub(crate) type Line = [u8; 403];
+pub(crate) type Line = [u8; 412];
 
 // A sample: the parts that are lent, each with its length, and the state to start from.
 pub(crate) struct Sample {
@@ -31,7 +31,7 @@ fn digit(byte: u8) -> u64 {
 
 // The number in some columns, at most 16.
 fn number(line: &Line, start: usize, columns: usize) -> u64
-    requires { ⌜ start + columns ≤ 403 ⌝ }
+    requires { ⌜ start + columns ≤ 412 ⌝ }
 {
     let mut value: u64 = 0;
     let mut i = 0;
@@ -44,21 +44,21 @@ fn number(line: &Line, start: usize, columns: usize) -> u64
 
 // The number in 4 columns.
 fn number16(line: &Line, start: usize) -> u16
-    requires { ⌜ start + 4 ≤ 403 ⌝ }
+    requires { ⌜ start + 4 ≤ 412 ⌝ }
 {
     (number(line, start, 4) % 0x10000) as u16
 }
 
 // The number in 8 columns.
 fn number32(line: &Line, start: usize) -> u32
-    requires { ⌜ start + 8 ≤ 403 ⌝ }
+    requires { ⌜ start + 8 ≤ 412 ⌝ }
 {
     (number(line, start, 8) % 0x1_0000_0000) as u32
 }
 
 // The number in 2 columns.
 fn number8(line: &Line, start: usize) -> u8
-    requires { ⌜ start + 2 ≤ 403 ⌝ }
+    requires { ⌜ start + 2 ≤ 412 ⌝ }
 {
     (number(line, start, 2) % 256) as u8
 }
@@ -124,6 +124,7 @@ pub(crate) fn sample_of(line: &Line) -> Sample {
             pc: number32(line, 368),
             depth: number32(line, 377),
             count: number(line, 386, 16),
+            return_type: number32(line, 403),
         },
     }
 }

@@ -21,7 +21,7 @@ struct Input {
 
 // Reads a line. Blanks stand where the input ends early.
 fn read_line() -> Input {
-    let mut line = [b' '; 403];
+    let mut line = [b' '; 412];
     let count = io::read_full(0, &mut line);
     Input {
         line: line,

@@ -2,8 +2,8 @@
 use borrow.Author.Tests.{eq-eqb, ne-eqb}
 use Rattle.rules.specs.Sheet.{lastIndex}
 use borrow.Author.Needs.{needs}
-use Rattle.sheet.proofs.records.last_index.Statement.{statement}
-use Rattle.sheet.proofs.records.last_index.Tie as tie
+use Rattle.sheet.proofs.contents.last_index.Statement.{statement}
+use Rattle.sheet.proofs.contents.last_index.Tie as tie
 
 add-read-code-u16 : tie.Need-add-read-code-u16
 add-read-code-u16 c = search needs

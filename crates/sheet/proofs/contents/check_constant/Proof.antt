@@ -5,8 +5,8 @@ use borrow.Author.Tests.{not-true, not-false}
 use Rattle.rules.specs.Answers.{checked}
 use Rattle.rules.proofs.Sheet.{tag-unfit, index-used, index-past, constant-read}
 use borrow.Author.Needs.{needs}
-use Rattle.sheet.proofs.records.check_constant.Statement.{statement}
-use Rattle.sheet.proofs.records.check_constant.Tie as tie
+use Rattle.sheet.proofs.contents.check_constant.Statement.{statement}
+use Rattle.sheet.proofs.contents.check_constant.Tie as tie
 
 add-body : tie.Need-add-body
 add-body c = search needs

@@ -4,8 +4,8 @@ use denote.Ref.{now}
 use Rattle.rules.specs.Answers.{checked}
 use Rattle.rules.proofs.Sheet.{too-many, arguments-read}
 use borrow.Author.Needs.{needs}
-use Rattle.sheet.proofs.records.check_arguments.Statement.{statement}
-use Rattle.sheet.proofs.records.check_arguments.Tie as tie
+use Rattle.sheet.proofs.contents.check_arguments.Statement.{statement}
+use Rattle.sheet.proofs.contents.check_arguments.Tie as tie
 
 body-length-requires : tie.Need-body-length-requires
 body-length-requires c κs = search needs
