@@ -1,17 +1,22 @@
--- What the answers to a mark, to a record and to the memory say of the questions. Assumes nothing.
-use Prim.Native.Nat.{ℕ, _+_, _≤_}
-use mathlib.Core.Path.{_≡_, refl}
+-- What the answers to a mark, to a record, to a descriptor and to the memory say of the questions. Assumes nothing.
+use Prim.Native.Nat.{ℕ, _+_, _-_, _≤_}
+use mathlib.Core.Path.{_≡_, refl, subst}
 use mathlib.Core.Bool.{Bool, true, false, _||_}
 use mathlib.Core.List.{List}
 use native.Mathlib.Omega.{arith}
 use lib.Dec.{eqb, leb, ltb}
-use lib.ListN.{length}
+use lib.ListN.{length, take, drop}
 use borrow.Author.Tests.{leb-true}
+use Rattle.values.specs.Kinds.{placesOf}
 use Rattle.rules.specs.declared.Mark.{Mark}
+use Rattle.rules.specs.declared.Mark.the-variants.{DS}
 use Rattle.rules.specs.declared.Reading.{Reading}
 use Rattle.rules.specs.Check.{Check, passed, refused, _else_, _>>_, isPassed}
-use Rattle.rules.specs.Sheet.{memoryCheck}
+use Rattle.rules.specs.Descriptor.{parameterKinds, returnType, descriptorCheck}
+use Rattle.rules.specs.Sheet.{descriptorAt, contentsCheck, memoryCheck}
 use Rattle.rules.proofs.Check.{first-passed, is-passed}
+use Rattle.descriptor.specs.declared.descriptors.Descriptor.the-variants as Descriptor
+use Rattle.descriptor.specs.Answers.{descriptorAnswer}
 use Rattle.sheet.specs.declared.marks.Known.the-variants as Known
 use Rattle.sheet.specs.declared.records.Record.the-variants as Record
 use Rattle.sheet.specs.Records.{markAnswer, recordAnswer}
@@ -31,6 +36,30 @@ record-read (refused n) p e = let z : _≡_ {A = ℕ} 0 1 = cc in absurd (omega 
 pub record-refused : (x : Check Reading) (k : ℕ) → Record.Refused k ≡ recordAnswer x → x ≡ refused k
 record-refused (passed q) k e = let z : _≡_ {A = ℕ} 0 1 = cc in absurd (omega arith)
 record-refused (refused n) k e = cc
+
+-- ---- a DS record, by what its descriptor answers
+
+-- its part of the sheet, as it is lent on
+pub part-is : (sheet : List ℕ) (start n m : ℕ) → n ≡ m → take (start + n - start) (drop start sheet) ≡ take m (drop start sheet)
+part-is sheet start n m e = let k : start + n - start ≡ m = omega arith in rw k
+
+module _ (sheet : List ℕ) (at : ℕ) (p : Reading) where
+  pub described : (d : List ℕ) (n t : ℕ) → Descriptor.Good n t ≡ descriptorAnswer d (descriptorCheck d) → d ≡ descriptorAt sheet at
+      → (contentsCheck sheet at p DS ≡ passed tt) × (n ≡ placesOf (parameterKinds (descriptorAt sheet at))) × (t ≡ returnType (descriptorAt sheet at))
+  unfolding contentsCheck
+  described d n t e same = subst (λ (b : List ℕ). (descriptorCheck b ≡ passed tt) × (n ≡ placesOf (parameterKinds b)) × (t ≡ returnType b)) same (go (descriptorCheck d) e)
+    where
+      go : (x : Check (Unit {0})) → Descriptor.Good n t ≡ descriptorAnswer d x → (x ≡ passed tt) × (n ≡ placesOf (parameterKinds d)) × (t ≡ returnType d)
+      go (passed y) e = (refl, cc, cc)
+      go (refused k) e = let z : _≡_ {A = ℕ} 0 1 = cc in absurd (omega arith)
+
+  pub not-described : (d : List ℕ) (k : ℕ) → Descriptor.Refused k ≡ descriptorAnswer d (descriptorCheck d) → d ≡ descriptorAt sheet at → contentsCheck sheet at p DS ≡ refused k
+  unfolding contentsCheck
+  not-described d k e same = subst (λ (b : List ℕ). descriptorCheck b ≡ refused k) same (go (descriptorCheck d) e)
+    where
+      go : (x : Check (Unit {0})) → Descriptor.Refused k ≡ descriptorAnswer d x → x ≡ refused k
+      go (passed y) e = let z : _≡_ {A = ℕ} 0 1 = cc in absurd (omega arith)
+      go (refused n) e = cc
 
 -- ---- the memory
 

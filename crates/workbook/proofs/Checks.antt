@@ -11,7 +11,7 @@ use Rattle.rules.specs.Check.{Check, passed, refused, _else_, _>>_, isPassed}
 use Rattle.rules.specs.Step.{Stepped}
 use Rattle.rules.specs.History.{AfterPress}
 use Rattle.rules.proofs.Check.{first-passed, last-passed, last-asked, is-passed}
-use Rattle.workbook.specs.StateWords.{lengthsCheck, sizesCheck}
+use Rattle.workbook.specs.StateWords.{stateSize, lengthsCheck, sizesCheck}
 use Rattle.workbook.specs.Calls.{unchanged, callBy, stepCallBy}
 
 -- two questions whose no is 1
@@ -24,11 +24,11 @@ two-no true true e = let z : _≡_ {A = ℕ} 0 1 = cc in absurd (omega arith)
 -- ---- the lengths
 
 module _ (state answer : List ℕ) (n : ℕ) where
-  pub short-state : length state < 6 → false ≡ isPassed (lengthsCheck state answer n)
+  pub short-state : length state < stateSize → false ≡ isPassed (lengthsCheck state answer n)
   unfolding lengthsCheck _else_ _>>_
   short-state h = simp (lt-leb _ _ h)
 
-  pub long-state : 6 ≤ length state → leb n (length answer) ≡ isPassed (lengthsCheck state answer n)
+  pub long-state : stateSize ≤ length state → leb n (length answer) ≡ isPassed (lengthsCheck state answer n)
   unfolding lengthsCheck _else_ _>>_
   long-state h = simp (le-leb _ _ h) (last-asked _ 1)
 
@@ -36,7 +36,7 @@ module _ (state answer : List ℕ) (n : ℕ) where
   unfolding lengthsCheck
   lengths-no e = two-no _ _ e
 
-  pub lengths-yes : isPassed (lengthsCheck state answer n) ≡ true → (6 ≤ length state) × (n ≤ length answer)
+  pub lengths-yes : isPassed (lengthsCheck state answer n) ≡ true → (stateSize ≤ length state) × (n ≤ length answer)
   unfolding lengthsCheck
   lengths-yes e =
       let a = first-passed _ 1 _ (is-passed (lengthsCheck state answer n) e) in
@@ -64,11 +64,11 @@ module _ (ws : List ℕ) where
       (leb-true _ _ (a .0), leb-true _ _ (last-passed _ 1 (a .1)))
 
 -- what passes them
-pub lengths-long : (state answer : List ℕ) (n : ℕ) → lengthsCheck state answer n ≡ passed tt → 6 ≤ length state
+pub lengths-long : (state answer : List ℕ) (n : ℕ) → lengthsCheck state answer n ≡ passed tt → stateSize ≤ length state
 unfolding lengthsCheck
 lengths-long state answer n e = leb-true _ _ (first-passed _ 1 _ e .0)
 
-pub lengths-pass : (state answer : List ℕ) (n : ℕ) → 6 ≤ length state → n ≤ length answer → lengthsCheck state answer n ≡ passed tt
+pub lengths-pass : (state answer : List ℕ) (n : ℕ) → stateSize ≤ length state → n ≤ length answer → lengthsCheck state answer n ≡ passed tt
 unfolding lengthsCheck _else_ _>>_
 lengths-pass state answer n h k = simp (le-leb _ _ h, le-leb _ _ k)
 

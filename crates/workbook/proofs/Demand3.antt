@@ -34,7 +34,7 @@ use Rattle.rules.proofs.Sheet.{sheet-numbered, load-accepted}
 use Rattle.rules.proofs.AcceptedLoad.{Read, was-read, Said, accepted-said, refused-above}
 use Rattle.rules.proofs.FromSheet.{demand3}
 use Rattle.rules.proofs.Replay.{from-any-load}
-use Rattle.workbook.specs.StateWords.{stateIn, withState, stateWords, lengthsCheck, sizesCheck}
+use Rattle.workbook.specs.StateWords.{stateWords, stateIn, stateSize, withState, lengthsCheck, sizesCheck}
 use Rattle.workbook.specs.Calls.{Called, stateAfter, answerAfter, forwardCall, backCall, withSteps, runCall, pressesMade, pressesCall, shortNumber, LoadCalled, loadBy, loadFor, loadCall}
 use Rattle.workbook.specs.Demand3.{partAt, methodLeft, Calls, pressCall, callsOf, answersLeft, Demand3OfCalls, FromThisLoad, LeftByLoad, FromAnyLoadCall}
 use Rattle.workbook.proofs.Checks.{lengths-long, lengths-pass, sizes-pass}
@@ -44,8 +44,8 @@ use Rattle.workbook.proofs.Checks.{lengths-long, lengths-pass, sizes-pa
 pub state-again : (ws : List ℕ) (s : State) → stateIn (withState ws s) ≡ s
 state-again ws s = let e : s .count % 2 ^ 32 + s .count / 2 ^ 32 * 2 ^ 32 ≡ s .count = omega arith in rw e
 
-long-again : (ws : List ℕ) (s : State) → 6 ≤ length ws → length (withState ws s) ≡ length ws
-long-again ws s h = length-paste ws 0 (stateWords s) 6 h (omega arith)
+long-again : (ws : List ℕ) (s : State) → stateSize ≤ length ws → length (withState ws s) ≡ length ws
+long-again ws s h = length-paste ws 0 (stateWords s) stateSize h (omega arith)
 
 -- ---- a press keeps the sizes, and one that is not granted keeps the state
 
@@ -90,7 +90,7 @@ press-keeps x back s slots log = back-keeps s slots log (backCheck (x .runs) s s
 
 -- the words that a state stands in: they are enough, and its sizes fit
 record Held (state : List ℕ) : Type 0 where
-  six : 6 ≤ length state
+  enough : stateSize ≤ length state
   stack : getD state 0 0 ≤ 65535
   locals : getD state 1 0 ≤ 65535
 
@@ -103,10 +103,10 @@ madeCall state answer o =
 
 press-made : (x : Machine) (p : Press) (slots log state answer : List ℕ) → Held state → 4 ≤ length answer → pressCall x p slots log state answer ≡ madeCall state answer (pressOf x p (stateIn state) slots log)
 unfolding pressOf forwardCall backCall backOf _>>_ _else_
-press-made x forward slots log state answer h k = rw (lengths-pass state answer 4 (h .six) k, sizes-held state h)
+press-made x forward slots log state answer h k = rw (lengths-pass state answer 4 (h .enough) k, sizes-held state h)
 press-made x back slots log state answer h k =
     let c = backCheck (x .runs) (stateIn state) slots log in
-    rw (le-leb 6 (length state) (h .six), sizes-held state h)
+    rw (le-leb stateSize (length state) (h .enough), sizes-held state h)
     (ap (λ (ws : List ℕ). record { number = pressedAnswer (backBy (stateIn state) slots log c .answer) .number; slots = backBy (stateIn state) slots log c .slots; log = backBy (stateIn state) slots log c .log; state = stateAfter state (backBy (stateIn state) slots log c .state) (backBy (stateIn state) slots log c .answer); answer = ws })
     (back-valueless (stateIn state) slots log answer c))
 
@@ -124,7 +124,7 @@ held-after : (state : List ℕ) (o : AfterPress) → Held state → Keeps (state
 held-after state o h k = go (o .answer)
   where
     written : Held (withState state (o .state))
-    written = record { six = omega (arith, long-again state (o .state) (h .six), h .six); stack = omega (arith, k .stack, h .stack); locals = omega (arith, k .locals, h .locals) }
+    written = record { enough = omega (arith, long-again state (o .state) (h .enough), h .enough); stack = omega (arith, k .stack, h .stack); locals = omega (arith, k .locals, h .locals) }
 
     go : (a : Pressed) → Held (stateAfter state (o .state) a)
     go Granted = written
@@ -163,7 +163,7 @@ calls-follow x (p ∷ ps) slots log state answer h k =
 -- ---- what an accepted load left in the words
 
 record LoadLeft (sheet slots kinds words state answer : List ℕ) : Type 0 where
-  six : 6 ≤ length state
+  enough : stateSize ≤ length state
   accepted : loadOf sheet slots kinds words .loaded .answer ≡ Load.Accepted
   is : let m = loadOf sheet slots kinds words in
       loadCall sheet slots kinds words state answer
@@ -178,7 +178,7 @@ unfolding loadCall
 load-left sheet slots kinds words state answer h = go (lengthsCheck state answer 4) refl h
   where
     by-answer : lengthsCheck state answer 4 ≡ passed tt → (a : Load) → loadOf sheet slots kinds words .loaded .answer ≡ a → loadAnswer a .number ≡ 0 → LoadLeft sheet slots kinds words state answer
-    by-answer l Load.Accepted e z = record { six = lengths-long state answer 4 l; accepted = e; is = rw (l, e) }
+    by-answer l Load.Accepted e z = record { enough = lengths-long state answer 4 l; accepted = e; is = rw (l, e) }
     by-answer l (Load.Refused k) e z = absurd (omega (arith, refused-above sheet slots kinds words k e))
 
     numbered : (a : Load) → loadBy state answer (loadOf sheet slots kinds words) a .number ≡ loadAnswer a .number
@@ -205,7 +205,7 @@ module _ (sheet slots kinds words state answer : List ℕ) (bytes : (i : ℕ) �
 
   held-left : Held (loadCall sheet slots kinds words state answer .state)
   held-left = rw (left .is) (record {
-    six = omega (arith, long-again state (loadOf sheet slots kinds words .loaded .state) (left .six), left .six);
+    enough = omega (arith, long-again state (loadOf sheet slots kinds words .loaded .state) (left .enough), left .enough);
     stack = said .small-stack;
     locals = said .small-locals;
   })
@@ -240,7 +240,7 @@ module _ (f : PlainWalk) (slots state answer : List ℕ) (presses : List Press) 
         numbers = follows .numbers ∙ ap (map (λ a. pressedAnswer a .number)) (d .answered);
         values = follows .values ∙ ap (answersLeft answer) (d .answered);
         demand3 = subst (λ (v : Walked). Demand3 f slots presses v) walked d;
-        ran = λ b. rw (lengths-pass state answer 4 (h .six) k, sizes-held state h, s, d .ran b, follows .slots) (ap (λ (t : State). withEnd t (w .slots)) (sym (follows .state)));
+        ran = λ b. rw (lengths-pass state answer 4 (h .enough) k, sizes-held state h, s, d .ran b, follows .slots) (ap (λ (t : State). withEnd t (w .slots)) (sym (follows .state)));
       }
 
 module _ (sheet slots kinds words state answer : List ℕ) (bytes : (i : ℕ) → u8 sheet i < 256) where
@@ -277,7 +277,7 @@ module _ (l : Method) (slots log state bytes answers : List ℕ) where
   replay-call : Held state → 3 * length bytes ≤ length answers
       → pressesCall (coreMachine l) slots log state bytes answers ≡ pressesMade state (replayOf (coreMachine l) bytes (stateIn state) slots log answers)
   unfolding pressesCall _else_ _>>_
-  replay-call h room = rw (le-leb (3 * length bytes) (length answers) room, le-leb 6 (length state) (h .six), sizes-held state h)
+  replay-call h room = rw (le-leb (3 * length bytes) (length answers) room, le-leb stateSize (length state) (h .enough), sizes-held state h)
 
   pub from-any-load-call : (c : Called) → c ≡ pressesCall (coreMachine l) slots log state bytes answers → FromAnyLoadCall l slots log state bytes answers c
   from-any-load-call c e sheet from room =

@@ -29,11 +29,11 @@ module _ (sheet slots kinds words : List ℕ) where
   abbrev Gave : Loaded → List ℕ → List ℕ → List ℕ → Type 0
   Gave x slots′ kinds′ words′ = record { loaded = x; slots = slots′; kinds = kinds′; words = words′ } ≡ loadOf sheet slots kinds words
 
-  pub code-lies : ((i : ℕ) → u8 sheet i < 256) → (x : Loaded) (slots′ kinds′ words′ : List ℕ) → Gave x slots′ kinds′ words′ → x .answer ≡ Load.Accepted → (x .code ≡ 12) × (x .«code_length» ≤ 65535)
+  pub code-lies : ((i : ℕ) → u8 sheet i < 256) → (x : Loaded) (slots′ kinds′ words′ : List ℕ) → Gave x slots′ kinds′ words′ → x .answer ≡ Load.Accepted → (x .code ≤ 65551) × (x .«code_length» ≤ 65535)
   code-lies bytes x slots′ kinds′ words′ e f =
       let same : loadOf sheet slots kinds words .loaded ≡ x = ap (λ (m : AfterLoad). m .loaded) (sym e) in
       let s = accepted-said sheet slots kinds words bytes (ap (λ (y : Loaded). y .answer) same ∙ f) in
-      (sym (ap (λ (y : Loaded). y .code) same) ∙ s .starts, omega (arith, s .short, ap (λ (y : Loaded). y .«code_length») same))
+      (omega (arith, s .starts, ap (λ (y : Loaded). y .code) same), omega (arith, s .short, ap (λ (y : Loaded). y .«code_length») same))
 
   module _ (state answer : List ℕ) where
     pub load-short : lengthsCheck state answer 4 ≡ refused 1 → (number : ℕ) → number ≡ shortNumber (sheetCheck sheet)

@@ -16,7 +16,7 @@ use Rattle.rules.specs.Step.{Machine, stepOf}
 use Rattle.rules.specs.Run.{runOf}
 use Rattle.rules.specs.History.{forwardOf, backOf}
 use Rattle.rules.specs.Answers.{decisionAnswer, endAnswer, pressedAnswer}
-use Rattle.workbook.specs.StateWords.{stateIn, withState, lengthsCheck, sizesCheck}
+use Rattle.workbook.specs.StateWords.{stateIn, stateSize, withState, lengthsCheck, sizesCheck}
 use Rattle.workbook.specs.Calls.{stateAfter, answerAfter, unchanged, pressedBy, stepCall, forwardCall, backCall, withSteps, runCall}
 
 -- a step has the number that it has as a press
@@ -40,20 +40,20 @@ module _ (x : Machine) (slots log state answer : List ℕ) (sizes : sizesCheck s
     unfolding forwardCall _>>_
     forward-made e = rw (lengths, sizes, ← e, numbered, stated, answered)
 
-  pub back-made : 6 ≤ length state → record { state = s; answer = a; slots = after; log = log } ≡ backOf (x .runs) (stateIn state) slots log
+  pub back-made : stateSize ≤ length state → record { state = s; answer = a; slots = after; log = log } ≡ backOf (x .runs) (stateIn state) slots log
       → record { number = number; slots = after; log = log; state = state′; answer = [] } ≡ backCall (x .runs) slots log state
   unfolding backCall _else_ _>>_
-  back-made h e = rw (le-leb 6 (length state) h, sizes, ← e, numbered, stated)
+  back-made h e = rw (le-leb stateSize (length state) h, sizes, ← e, numbered, stated)
 
 -- a back that is not made
 module _ (l : Method) (slots log state : List ℕ) where
-  pub back-short : length state < 6 → unchanged slots log state [] 1 ≡ backCall l slots log state
+  pub back-short : length state < stateSize → unchanged slots log state [] 1 ≡ backCall l slots log state
   unfolding backCall _else_ _>>_
-  back-short h = rw (lt-leb 6 (length state) h)
+  back-short h = rw (lt-leb stateSize (length state) h)
 
-  pub back-sizes : 6 ≤ length state → sizesCheck state ≡ refused 1 → unchanged slots log state [] 1 ≡ backCall l slots log state
+  pub back-sizes : stateSize ≤ length state → sizesCheck state ≡ refused 1 → unchanged slots log state [] 1 ≡ backCall l slots log state
   unfolding backCall _else_ _>>_
-  back-sizes h e = rw (le-leb 6 (length state) h, e)
+  back-sizes h e = rw (le-leb stateSize (length state) h, e)
 
 -- a run
 module _ (x : Machine) (slots state answer : List ℕ) (budget : ℕ) where

@@ -21,7 +21,7 @@ use Rattle.rules.specs.Presses.{pressOfByte, pressesOfBytes, answersWords, Repl
 use Rattle.rules.proofs.Step.{refused-by-frame}
 use Rattle.rules.proofs.History.{forward-by, back-frame, back-by}
 use Rattle.rules.proofs.Replay.{replay-made}
-use Rattle.workbook.specs.StateWords.{stateIn, withState, sizesCheck}
+use Rattle.workbook.specs.StateWords.{stateIn, stateSize, withState, sizesCheck}
 use Rattle.workbook.specs.Calls.{unchanged, allRefused, pressesCall}
 
 -- ---- question 1 says no of a frame that its slots do not hold
@@ -65,18 +65,18 @@ module _ (x : Machine) (slots log state bytes answers : List ℕ) where
   few-answers h = rw (lt-leb (3 * length bytes) (length answers) h)
 
   module _ (room : 3 * length bytes ≤ length answers) where
-    pub few-state : length state < 6 → unchanged slots log state answers 1 ≡ pressesCall x slots log state bytes answers
+    pub few-state : length state < stateSize → unchanged slots log state answers 1 ≡ pressesCall x slots log state bytes answers
     unfolding pressesCall _else_ _>>_
-    few-state h = rw (le-leb (3 * length bytes) (length answers) room, lt-leb 6 (length state) h)
+    few-state h = rw (le-leb (3 * length bytes) (length answers) room, lt-leb stateSize (length state) h)
 
-    module _ (six : 6 ≤ length state) where
+    module _ (enough : stateSize ≤ length state) where
       pub no-state : sizesCheck state ≡ refused 1 → (log′ answers′ : List ℕ) → log′ ≡ log → answers′ ≡ paste answers 0 (answersWords (allRefused bytes)) (3 * length bytes)
           → record { number = 0; slots = slots; log = log′; state = state; answer = answers′ } ≡ pressesCall x slots log state bytes answers
       unfolding pressesCall _else_ _>>_
-      no-state e log′ answers′ f g = rw (le-leb (3 * length bytes) (length answers) room, le-leb 6 (length state) six, e, f, g)
+      no-state e log′ answers′ f g = rw (le-leb (3 * length bytes) (length answers) room, le-leb stateSize (length state) enough, e, f, g)
 
       pub list-made : sizesCheck state ≡ passed tt → (number : ℕ) (s : State) (after log′ state′ answers′ : List ℕ)
           → record { number = number; state = s; slots = after; log = log′; answers = answers′ } ≡ replayOf x bytes (stateIn state) slots log answers → state′ ≡ withState state s
           → record { number = 0; slots = after; log = log′; state = state′; answer = answers′ } ≡ pressesCall x slots log state bytes answers
       unfolding pressesCall _else_ _>>_
-      list-made e number s after log′ state′ answers′ r f = rw (le-leb (3 * length bytes) (length answers) room, le-leb 6 (length state) six, e, ← r, f)
+      list-made e number s after log′ state′ answers′ r f = rw (le-leb (3 * length bytes) (length answers) room, le-leb stateSize (length state) enough, e, ← r, f)

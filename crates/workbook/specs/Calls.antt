@@ -20,7 +20,7 @@ use Rattle.rules.specs.Sheet.{sheetCheck, AfterLoad, loadOf}
 use Rattle.rules.specs.History.{AfterPress, forwardOf, backOf}
 use Rattle.rules.specs.Answers.{valueAnswer, decisionAnswer, endAnswer, pressedAnswer, loadAnswer}
 use Rattle.rules.specs.Presses.{answersWords, answersCheck, Replayed, replayOf}
-use Rattle.workbook.specs.StateWords.{stateIn, withState, lengthsCheck, sizesCheck}
+use Rattle.workbook.specs.StateWords.{stateIn, stateSize, withState, lengthsCheck, sizesCheck}
 
 -- ---- step, forward and back
 
@@ -93,7 +93,7 @@ backBy slots log state o (refused n) = unchanged slots log state [] n
 
 unfoldable pub backCall : Method → List ℕ → List ℕ → List ℕ → Called
 backCall l slots log state = backBy slots log state (backOf l (stateIn state) slots log) (do
-  6 ≤ⁿ length state else 1
+  stateSize ≤ⁿ length state else 1
   sizesCheck state)
 
 -- ---- run
@@ -142,7 +142,7 @@ unfoldable pub pressesCall : Machine → List ℕ → List ℕ → List ℕ → 
 pressesCall x slots log state bytes answers =
     pressesFor bytes slots log state answers (replayOf x bytes (stateIn state) slots log answers) (do
       answersCheck (length bytes) (length answers)
-      6 ≤ⁿ length state else 1)
+      stateSize ≤ⁿ length state else 1)
 
 -- ---- load
 

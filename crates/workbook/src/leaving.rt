@@ -15,6 +15,7 @@ ghost use mathlib.Core.Path.{_≡_};
 ghost use Prim.Native.Nat.{_≤_};
 ghost use lib.ListN.{length};
 ghost use Rattle.rules.specs.Answers.{pressedAnswer, endAnswer};
+ghost use Rattle.workbook.specs.StateWords.{stateSize};
 ghost use Rattle.workbook.specs.Calls.{stateAfter, answerAfter, withValue, withSteps, pressedBy};
 
 // A step's decision as a press.
@@ -55,7 +56,7 @@ pub(crate) fn end_answer(end: End) -> Answer
 
 // Writes the state where a press is granted.
 fn leave_state(state: &mut [u32], s: State, a: Pressed)
-    requires { ⌜ 6 ≤ length (now state) ⌝ }
+    requires { ⌜ stateSize ≤ length (now state) ⌝ }
     ensures { λ _. ⌜ now (state .exit) ≡ stateAfter (now (state .entry)) s a ⌝ }
 {
     if let Pressed::Granted = a {
@@ -85,7 +86,7 @@ pub(crate) fn leave_value(answer: &mut [u32], a: Pressed)
 
 // Writes the state where a press is granted, and gives its number.
 pub(crate) fn leave(state: &mut [u32], s: State, a: Pressed) -> u32
-    requires { ⌜ 6 ≤ length (now state) ⌝ }
+    requires { ⌜ stateSize ≤ length (now state) ⌝ }
     ensures { λ r. ⌜ r ≡ pressedAnswer a .number ⌝ }
     ensures { λ r. ⌜ now (state .exit) ≡ stateAfter (now (state .entry)) s a ⌝ }
 {

@@ -35,7 +35,7 @@ fn refuse_presses(
         words,
         &mut slots,
         log,
-        loaded_state(1, 1),
+        loaded_state(1, 1, 0),
         bytes,
         answers,
     );

@@ -37,7 +37,7 @@ add-fill-pool c =
     let a = c .before .before .before .before .before .before .before .before .before .before .args in
     let w = sheet-within (now (a .sheet)) (a .p) (c .before .before .before .before .before .before .before .before .before .before .pre) in
     let last = w .1 in
-    let k : 2 ≤ a .p .last = omega arith in
+    let k : 3 ≤ a .p .last = omega arith in
     omega (arith, w .0 .code-there k)
 
 sub-fill-pool : tie.Need-sub-fill-pool
@@ -45,7 +45,7 @@ sub-fill-pool c =
     let a = c .before .before .before .before .before .before .before .before .before .before .before .args in
     let w = sheet-within (now (a .sheet)) (a .p) (c .before .before .before .before .before .before .before .before .before .before .before .pre) in
     let last = w .1 in
-    let h : 4 ≤ a .p .last = omega arith in
+    let h : 5 ≤ a .p .last = omega arith in
     omega (arith, w .0 .after-head h)
 
 fill-pool-requires : tie.Need-fill-pool-requires
@@ -53,7 +53,7 @@ fill-pool-requires c κs =
     let a = c .before .before .before .before .before .before .before .before .before .before .before .before .before .args in
     let w = sheet-within (now (a .sheet)) (a .p) (c .before .before .before .before .before .before .before .before .before .before .before .before .before .pre) in
     let last = w .1 in
-    let h : 4 ≤ a .p .last = omega arith in
+    let h : 5 ≤ a .p .last = omega arith in
     omega (arith, w .0 .arguments-there h)
 
 fill-slots-requires : tie.Need-fill-slots-requires
@@ -61,7 +61,7 @@ fill-slots-requires c κs =
     let a = c .before .before .before .before .before .before .before .before .before .before .before .before .before .before .before .before .before .before .before .args in
     let w = sheet-within (now (a .sheet)) (a .p) (c .before .before .before .before .before .before .before .before .before .before .before .before .before .before .before .before .before .before .before .pre) in
     let last = w .1 in
-    let h : 4 ≤ a .p .last = omega arith in
+    let h : 5 ≤ a .p .last = omega arith in
     let fits = slots-reach (a .p) (now (a .slots)) (now (a .kinds)) (now (a .words)) (enough (a .p) (now (a .slots)) (now (a .kinds)) (now (a .words)) (sym (c .before .before .before .before .before .before .before .before .before .before .before .is-enough .ensures) ∙ not-false _ (c .before .before .before .before .before .before .before .before .before .before .if1 .left))) in
     (w .0 .arguments-there h, w .0 .few-arguments h, fits)
 

@@ -16,6 +16,9 @@ enum-told-3 c = search needs
 enum-told-4 : tie.Need-enum-told-4
 enum-told-4 c = search needs
 
+enum-told-5 : tie.Need-enum-told-5
+enum-told-5 c = search needs
+
 returns : tie.Need-returns
 returns c = simp (c .enum-told .given .1)
 
@@ -34,6 +37,12 @@ returns-5 c = simp (c .before .enum-told4 .given .1, eq-eqb _ _ (c .if2 .taken))
 returns-6 : tie.Need-returns-6
 returns-6 c = simp (c .before .enum-told4 .given .1, ne-eqb _ _ (c .if2 .left))
 
+returns-7 : tie.Need-returns-7
+returns-7 c = simp (c .before .enum-told5 .given .1, eq-eqb _ _ (c .if3 .taken))
+
+returns-8 : tie.Need-returns-8
+returns-8 c = simp (c .before .enum-told5 .given .1, ne-eqb _ _ (c .if3 .left))
+
 pub may-follow-spec : {M : Type 1} → statement M
 may-follow-spec =
     tie.close
@@ -42,9 +51,12 @@ may-follow-spec =
     enum-told-2
     enum-told-3
     enum-told-4
+    enum-told-5
     returns
     returns-2
     returns-3
     returns-4
     returns-5
-    returns-6)
+    returns-6
+    returns-7
+    returns-8)

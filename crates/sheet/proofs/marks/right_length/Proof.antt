@@ -16,6 +16,9 @@ enum-told-3 c = search needs
 enum-told-4 : tie.Need-enum-told-4
 enum-told-4 c = search needs
 
+enum-told-5 : tie.Need-enum-told-5
+enum-told-5 c = search needs
+
 returns : tie.Need-returns
 returns c = simp (c .enum-told .given .1)
 
@@ -23,13 +26,16 @@ returns-2 : tie.Need-returns-2
 returns-2 c = simp (c .enum-told2 .given .1)
 
 returns-3 : tie.Need-returns-3
-returns-3 c = simp (c .before .enum-told3 .given .1, eq-eqb _ _ (c .if1 .taken))
+returns-3 c = simp (c .enum-told3 .given .1)
 
 returns-4 : tie.Need-returns-4
-returns-4 c = simp (c .before .enum-told3 .given .1, ne-eqb _ _ (c .if1 .left))
+returns-4 c = simp (c .before .enum-told4 .given .1, eq-eqb _ _ (c .if1 .taken))
 
 returns-5 : tie.Need-returns-5
-returns-5 c = simp (c .enum-told4 .given .1)
+returns-5 c = simp (c .before .enum-told4 .given .1, ne-eqb _ _ (c .if1 .left))
+
+returns-6 : tie.Need-returns-6
+returns-6 c = simp (c .enum-told5 .given .1)
 
 pub right-length-spec : {M : Type 1} → statement M
 right-length-spec =
@@ -39,8 +45,10 @@ right-length-spec =
     enum-told-2
     enum-told-3
     enum-told-4
+    enum-told-5
     returns
     returns-2
     returns-3
     returns-4
-    returns-5)
+    returns-5
+    returns-6)

@@ -2,8 +2,8 @@
 use mathlib.Core.Path.{sym, ap, _∙_}
 use denote.Ref.{now}
 use borrow.Author.Tests.{not-true, not-false}
-use Rattle.rules.proofs.Sheet.{disordered, wrong-length, bad-contents, good-contents}
-use Rattle.rules.proofs.Answers.{row-passed, row-refused}
+use Rattle.rules.specs.Sheet.{contentsRead}
+use Rattle.rules.proofs.Sheet.{disordered, wrong-length, read-on}
 use Rattle.sheet.specs.Records.{recordAnswer}
 use borrow.Author.Needs.{needs}
 use Rattle.sheet.proofs.records.check_marked.Statement.{statement}
@@ -13,8 +13,7 @@ may-follow-requires : tie.Need-may-follow-requires
 may-follow-requires c κs = search needs
 
 returns : tie.Need-returns
-returns c =
-    let a = c .before .before .before .args in
+returns c = let a = c .before .before .before .args in
     sym (ap recordAnswer (disordered (now (a .sheet)) (a .at) (a .p) (a .mark) (sym (c .before .may-follow .ensures) ∙ not-true _ (c .if1 .taken))))
 
 body-length-requires : tie.Need-body-length-requires
@@ -24,37 +23,70 @@ right-length-requires : tie.Need-right-length-requires
 right-length-requires c κs = search needs
 
 returns-2 : tie.Need-returns-2
-returns-2 c =
-    let a = c .before .before .before .before .before .before .args in
+returns-2 c = let a = c .before .before .before .before .before .before .args in
     let ordered = sym (c .before .before .before .before .may-follow .ensures) ∙ not-false _ (c .before .before .before .if1 .left) in
     let wrong = rw (c .before .before .body-length .ensures) at (sym (c .before .right-length .ensures) ∙ not-true _ (c .if2 .taken)) in
     sym (ap recordAnswer (wrong-length (now (a .sheet)) (a .at) (a .p) (a .mark) ordered wrong))
 
-check-contents-requires : tie.Need-check-contents-requires
-check-contents-requires c κs = search needs
-
-enum-known-contents : tie.Need-enum-known-contents
-enum-known-contents c = search needs
-
 enum-told : tie.Need-enum-told
 enum-told c = search needs
 
-with-record-requires : tie.Need-with-record-requires
-with-record-requires c κs = search needs
+read-sizes-requires : tie.Need-read-sizes-requires
+read-sizes-requires c κs = search needs
+
+enum-told-2 : tie.Need-enum-told-2
+enum-told-2 c = search needs
+
+read-types-requires : tie.Need-read-types-requires
+read-types-requires c κs = search needs
+
+enum-told-3 : tie.Need-enum-told-3
+enum-told-3 c = search needs
+
+read-code-requires : tie.Need-read-code-requires
+read-code-requires c κs = search needs
+
+enum-told-4 : tie.Need-enum-told-4
+enum-told-4 c = search needs
+
+read-constant-requires : tie.Need-read-constant-requires
+read-constant-requires c κs = search needs
+
+enum-told-5 : tie.Need-enum-told-5
+enum-told-5 c = search needs
+
+read-arguments-requires : tie.Need-read-arguments-requires
+read-arguments-requires c κs = search needs
 
 returns-3 : tie.Need-returns-3
-returns-3 c =
-    let a = c .before .before .before .before .before .before .before .before .before .before .args in
-    let ordered = sym (c .before .before .before .before .before .before .before .before .may-follow .ensures) ∙ not-false _ (c .before .before .before .before .before .before .before .if1 .left) in
-    let right = rw (c .before .before .before .before .before .before .body-length .ensures) at (sym (c .before .before .before .before .before .right-length .ensures) ∙ not-false _ (c .before .before .before .before .if2 .left)) in
-    sym (ap recordAnswer (bad-contents (now (a .sheet)) (a .at) (a .p) (a .mark) ordered right _ (row-refused _ _ (sym (c .before .contents .given .1) ∙ c .before .before .before .check-contents .ensures))))
+returns-3 c = let a = c .before .before .before .before .before .before .before .before .before .args in
+    let ordered = sym (c .before .before .before .before .before .before .before .may-follow .ensures) ∙ not-false _ (c .before .before .before .before .before .before .if1 .left) in
+    let right = rw (c .before .before .before .before .before .body-length .ensures) at (sym (c .before .before .before .before .right-length .ensures) ∙ not-false _ (c .before .before .before .if2 .left)) in
+    c .read-sizes .ensures ∙ sym (ap recordAnswer (read-on (now (a .sheet)) (a .at) (a .p) (a .mark) ordered right ∙ ap (contentsRead (now (a .sheet)) (a .at) (a .p)) (c .before .enum-told .given .1)))
 
 returns-4 : tie.Need-returns-4
-returns-4 c =
-    let a = c .before .before .before .before .before .before .before .before .before .before .args in
-    let ordered = sym (c .before .before .before .before .before .before .before .before .may-follow .ensures) ∙ not-false _ (c .before .before .before .before .before .before .before .if1 .left) in
-    let right = rw (c .before .before .before .before .before .before .body-length .ensures) at (sym (c .before .before .before .before .before .right-length .ensures) ∙ not-false _ (c .before .before .before .before .if2 .left)) in
-    rw (c .with-record .ensures) (sym (ap recordAnswer (good-contents (now (a .sheet)) (a .at) (a .p) (a .mark) ordered right (row-passed _ (sym (c .before .enum-told .given .1) ∙ c .before .before .before .check-contents .ensures)))))
+returns-4 c = let a = c .before .before .before .before .before .before .before .before .before .args in
+    let ordered = sym (c .before .before .before .before .before .before .before .may-follow .ensures) ∙ not-false _ (c .before .before .before .before .before .before .if1 .left) in
+    let right = rw (c .before .before .before .before .before .body-length .ensures) at (sym (c .before .before .before .before .right-length .ensures) ∙ not-false _ (c .before .before .before .if2 .left)) in
+    c .read-types .ensures ∙ sym (ap recordAnswer (read-on (now (a .sheet)) (a .at) (a .p) (a .mark) ordered right ∙ ap (contentsRead (now (a .sheet)) (a .at) (a .p)) (c .before .enum-told2 .given .1)))
+
+returns-5 : tie.Need-returns-5
+returns-5 c = let a = c .before .before .before .before .before .before .before .before .before .args in
+    let ordered = sym (c .before .before .before .before .before .before .before .may-follow .ensures) ∙ not-false _ (c .before .before .before .before .before .before .if1 .left) in
+    let right = rw (c .before .before .before .before .before .body-length .ensures) at (sym (c .before .before .before .before .right-length .ensures) ∙ not-false _ (c .before .before .before .if2 .left)) in
+    c .read-code .ensures ∙ sym (ap recordAnswer (read-on (now (a .sheet)) (a .at) (a .p) (a .mark) ordered right ∙ ap (contentsRead (now (a .sheet)) (a .at) (a .p)) (c .before .enum-told3 .given .1)))
+
+returns-6 : tie.Need-returns-6
+returns-6 c = let a = c .before .before .before .before .before .before .before .before .before .args in
+    let ordered = sym (c .before .before .before .before .before .before .before .may-follow .ensures) ∙ not-false _ (c .before .before .before .before .before .before .if1 .left) in
+    let right = rw (c .before .before .before .before .before .body-length .ensures) at (sym (c .before .before .before .before .right-length .ensures) ∙ not-false _ (c .before .before .before .if2 .left)) in
+    c .read-constant .ensures ∙ sym (ap recordAnswer (read-on (now (a .sheet)) (a .at) (a .p) (a .mark) ordered right ∙ ap (contentsRead (now (a .sheet)) (a .at) (a .p)) (c .before .enum-told4 .given .1)))
+
+returns-7 : tie.Need-returns-7
+returns-7 c = let a = c .before .before .before .before .before .before .before .before .before .args in
+    let ordered = sym (c .before .before .before .before .before .before .before .may-follow .ensures) ∙ not-false _ (c .before .before .before .before .before .before .if1 .left) in
+    let right = rw (c .before .before .before .before .before .body-length .ensures) at (sym (c .before .before .before .before .right-length .ensures) ∙ not-false _ (c .before .before .before .if2 .left)) in
+    c .read-arguments .ensures ∙ sym (ap recordAnswer (read-on (now (a .sheet)) (a .at) (a .p) (a .mark) ordered right ∙ ap (contentsRead (now (a .sheet)) (a .at) (a .p)) (c .before .enum-told5 .given .1)))
 
 pub check-marked-spec : {M : Type 1} → statement M
 check-marked-spec =
@@ -65,9 +97,18 @@ check-marked-spec =
     body-length-requires
     right-length-requires
     returns-2
-    check-contents-requires
-    enum-known-contents
     enum-told
-    with-record-requires
+    read-sizes-requires
+    enum-told-2
+    read-types-requires
+    enum-told-3
+    read-code-requires
+    enum-told-4
+    read-constant-requires
+    enum-told-5
+    read-arguments-requires
     returns-3
-    returns-4)
+    returns-4
+    returns-5
+    returns-6
+    returns-7)

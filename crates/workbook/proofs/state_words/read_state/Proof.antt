@@ -30,8 +30,11 @@ shared-slice-read-join-words-2 c = search needs
 join-words-requires : tie.Need-join-words-requires
 join-words-requires c κs = search needs
 
+shared-slice-read-t18 : tie.Need-shared-slice-read-t18
+shared-slice-read-t18 c = search needs
+
 returns : tie.Need-returns
-returns c = rw (c .join-words .ensures)
+returns c = rw (c .before .join-words .ensures)
 
 pub read-state-spec : {M : Type 1} → statement M
 read-state-spec =
@@ -46,4 +49,5 @@ read-state-spec =
     shared-slice-read-join-words
     shared-slice-read-join-words-2
     join-words-requires
+    shared-slice-read-t18
     returns)
