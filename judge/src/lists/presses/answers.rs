@@ -271,7 +271,8 @@ impl Totals {
     /// The line of the whole. Every number of a press is met but 1, which no load leaves to be met, and
     /// every method's end.
     fn line(&self, lists: &Lists) -> Result<String, String> {
-        let numbers = [0].into_iter().chain(2..=14).chain(101..=106).chain([110]);
+        let numbers = [0].into_iter().chain(2..=14).chain([32]);
+        let numbers = numbers.chain(101..=106).chain([110]);
         expect(self.numbers.iter().copied().eq(numbers), || {
             format!("only {:?} are met", self.numbers)
         })?;

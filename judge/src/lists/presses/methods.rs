@@ -108,8 +108,9 @@ pub fn methods() -> Result<Methods, String> {
     })
 }
 
-const KEYWORDS: [&str; 6] = [
+const KEYWORDS: [&str; 7] = [
     "max_stack",
+    "descriptor",
     "arguments",
     "more",
     "constants",
@@ -130,8 +131,12 @@ fn read(row: &[&str]) -> Result<Pressed, String> {
         .collect();
     let max_stack: u16 = said.number("max_stack")?.ok_or("max_stack is not said")?;
     let max_locals = arguments.len() as u16 + said.number("more")?.unwrap_or(0);
+    let descriptors = said.words("descriptor").unwrap_or_default().iter();
     let sheet = [
         records::sizes(max_stack, max_locals),
+        descriptors
+            .flat_map(|text| records::descriptor(text.as_bytes()))
+            .collect(),
         records::record(b"CD", &code(listing)?),
         constants(said.words("constants").unwrap_or_default())?,
         records::arguments(&arguments),
