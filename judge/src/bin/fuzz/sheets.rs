@@ -5,7 +5,10 @@ use super::descriptors;
 use super::random::Random;
 use bytecode::records::{arguments, constant, descriptor, record, sizes};
 
-const SAMPLES: [&[u8]; 18] = [
+const SAMPLES: [&[u8]; 24] = [
+    include_bytes!("../../../../samples/boolean_return.sheet"),
+    include_bytes!("../../../../samples/byte_return.sheet"),
+    include_bytes!("../../../../samples/char_return.sheet"),
     include_bytes!("../../../../samples/division_by_zero.sheet"),
     include_bytes!("../../../../samples/endless.sheet"),
     include_bytes!("../../../../samples/iinc_255.sheet"),
@@ -19,8 +22,11 @@ const SAMPLES: [&[u8]; 18] = [
     include_bytes!("../../../../samples/nan_comparison.sheet"),
     include_bytes!("../../../../samples/printed.sheet"),
     include_bytes!("../../../../samples/refused_length.sheet"),
+    include_bytes!("../../../../samples/refused_return.sheet"),
     include_bytes!("../../../../samples/refused_stack.sheet"),
+    include_bytes!("../../../../samples/refused_words.sheet"),
     include_bytes!("../../../../samples/shifts.sheet"),
+    include_bytes!("../../../../samples/short_return.sheet"),
     include_bytes!("../../../../samples/swap.sheet"),
     include_bytes!("../../../../samples/tableswitch_highest.sheet"),
     include_bytes!("../../../../samples/wide.sheet"),
