@@ -159,3 +159,53 @@ pub fn load(
     }
     Ok((state, read.code))
 }
+
+#[cfg(test)]
+mod tests {
+    use super::*;
+    use bytecode::records::{arguments, descriptor, record, sizes};
+
+    /// Loads a method of three locals and these words, with a descriptor or without.
+    fn loaded(text: Option<&str>, words: &[u32]) -> Result<State, u32> {
+        let described = text.map_or(vec![], |text| descriptor(text.as_bytes()));
+        let code = record(b"CD", &[0xB1]);
+        let sheet = [sizes(1, 3), described, code, arguments(words)].concat();
+        load(&sheet, &mut [0; 4], &mut [], &mut []).map(|(state, _)| state)
+    }
+
+    #[test]
+    fn the_state_has_the_return_type() {
+        let said = |text| loaded(text, &[]).map(|state| state.return_type);
+        assert_eq!(said(None), Ok(0));
+        for (text, letter) in [
+            ("()B", 'B'),
+            ("()C", 'C'),
+            ("()D", 'D'),
+            ("()F", 'F'),
+            ("()I", 'I'),
+            ("()J", 'J'),
+            ("()LA;", 'L'),
+            ("()[B", 'L'),
+            ("()[[LA;", 'L'),
+            ("()S", 'S'),
+            ("()V", 'V'),
+            ("()Z", 'Z'),
+        ] {
+            assert_eq!(said(Some(text)), Ok(letter.into()), "{text}");
+        }
+    }
+
+    #[test]
+    fn the_words_are_what_the_descriptor_takes() {
+        let number = |text, words: &[u32]| loaded(text, words).err();
+        assert_eq!(number(None, &[1]), None);
+        assert_eq!(number(Some("(IJ)V"), &[1]), Some(31));
+        assert_eq!(number(Some("(IJ)V"), &[1, 2]), Some(31));
+        assert_eq!(number(Some("(IJ)V"), &[1, 2, 3]), None);
+        assert_eq!(number(Some("(I)V"), &[1, 2, 3]), Some(31));
+        assert_eq!(number(Some("(JJ)V"), &[1, 2, 3, 4]), Some(27));
+        assert_eq!(number(Some("(Z)Z"), &[2]), None);
+        assert_eq!(number(Some("(V)V"), &[1, 2, 3, 4]), Some(31));
+        assert_eq!(number(Some(""), &[]), Some(31));
+    }
+}

@@ -27,6 +27,7 @@
 
 pub mod descriptors;
 pub mod lent_memory;
+pub mod made_descriptors;
 pub mod records;
 pub mod right_records;
 pub mod two_refusals;
@@ -169,6 +170,7 @@ pub fn samples() -> Result<Samples, String> {
     wrong_records::bytes_after(&mut samples);
     two_refusals::all(&mut samples)?;
     descriptors::all(&mut samples)?;
+    made_descriptors::all(&mut samples)?;
     let mut names = HashSet::new();
     let fits = |sample: &Sample| {
         sample.name.len() <= 40 && sample.slots <= 300 && sample.sheet.len() <= 66_000
