@@ -224,6 +224,13 @@ pub fn instruct(random: &mut Random, memory: &mut Memory) {
         96..=131 => opcode % 2 == 1,
         _ => matches!(opcode, 136..=138 | 142..=144 | 148 | 151 | 152 | 173 | 175),
     };
+    popped.copy_from_slice(&operands(random, pops, long));
+    set(memory, 2, pc as u32);
+    set(memory, 3, depth as u32);
+}
+
+/// The words of ints and floats, or of longs and doubles, some of them twice.
+fn operands(random: &mut Random, pops: usize, long: bool) -> Vec<u32> {
     let mut operands = vec![];
     while operands.len() < pops {
         let (last, size) = (operands.len(), 1 + usize::from(long));
@@ -236,9 +243,8 @@ pub fn instruct(random: &mut Random, memory: &mut Memory) {
             operands.push(random.word());
         }
     }
-    popped.copy_from_slice(&operands[..pops]);
-    set(memory, 2, pc as u32);
-    set(memory, 3, depth as u32);
+    operands.truncate(pops);
+    operands
 }
 
 /// Changes something between two calls.

@@ -11,6 +11,7 @@ pub fn all(samples: &mut Samples) {
     wrong_orders(samples);
     missing_records(samples);
     wrong_lengths(samples);
+    wrong_argument_lengths(samples);
     wrong_tags(samples);
     wrong_indices(samples);
     last_indices(samples);
@@ -201,6 +202,10 @@ fn wrong_lengths(samples: &mut Samples) {
             &format!("LM; CD; KI; {record}; AR"),
         );
     }
+}
+
+/// 24 of `AR`, after a constant, after the code, and with a descriptor.
+fn wrong_argument_lengths(samples: &mut Samples) {
     for length in [1, 2, 3, 5, 6, 7, 9, 10, 11, 257] {
         samples.add(
             format!("AR_of_{length}"),
