@@ -88,12 +88,9 @@ fn sheet_of_method(lines: &[&str], listing: &[&str]) -> Result<Vec<u8>, String> 
         return Err("the descriptor is said at most once".to_string());
     }
     let code = assemble(&listing.join("\n"))?;
-    let most = 65_535;
-    let bodies = said.descriptors.iter().map(|text| text.len());
-    if bodies
-        .chain([code.len(), 4 * said.arguments.len()])
-        .any(|length| length > most)
-    {
+    let lengths = said.descriptors.iter().map(|text| text.len());
+    let mut lengths = lengths.chain([code.len(), 4 * said.arguments.len()]);
+    if lengths.any(|length| length > 65_535) {
         return Err("a record has at most 65,535 bytes".to_string());
     }
     let descriptors = said.descriptors.iter();
