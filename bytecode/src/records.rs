@@ -16,6 +16,12 @@ pub fn sizes(max_stack: u16, max_locals: u16) -> Vec<u8> {
     )
 }
 
+/// The record with the method descriptor, good or not.
+#[must_use]
+pub fn descriptor(bytes: &[u8]) -> Vec<u8> {
+    record(b"DS", bytes)
+}
+
 /// A constant's record.
 #[must_use]
 pub fn constant(index: u16, tag: u8, value: &[u8]) -> Vec<u8> {

@@ -7,6 +7,7 @@
 //! ```text
 //! max_stack NUMBER
 //! max_locals NUMBER
+//! descriptor TEXT               at most once, as (IJ)B: the method descriptor, with no blank in it; the load says whether it is good
 //! constant INDEX KIND VALUE     as many as there are, by rising index; a long or a double uses its index and the next one
 //! argument KIND VALUE           as many as there are, in order; a long or a double gives two words, its low word first
 //! code                          the last of them: what follows is a listing
@@ -48,34 +49,61 @@ fn sheet_of_bytes(lines: &[&str]) -> Result<Vec<u8>, String> {
     values::bytes(&digits.concat().replace(' ', ""))
 }
 
-fn sheet_of_method(lines: &[&str], listing: &[&str]) -> Result<Vec<u8>, String> {
-    let (mut max_stack, mut max_locals) = (vec![], vec![]);
-    let (mut constants, mut arguments) = (vec![], vec![]);
-    for line in lines {
+/// What the lines before a listing say.
+#[derive(Default)]
+struct Said<'a> {
+    max_stack: Vec<u16>,
+    max_locals: Vec<u16>,
+    descriptors: Vec<&'a str>,
+    constants: Vec<u8>,
+    arguments: Vec<u32>,
+}
+
+impl<'a> Said<'a> {
+    fn line(&mut self, line: &'a str) -> Result<(), String> {
         let words: Vec<&str> = line.split_whitespace().collect();
-        let said = match words[..] {
-            ["max_stack", size] => number(size).map(|size| max_stack.push(size)),
-            ["max_locals", size] => number(size).map(|size| max_locals.push(size)),
+        match words[..] {
+            ["max_stack", size] => self.max_stack.push(number(size)?),
+            ["max_locals", size] => self.max_locals.push(number(size)?),
+            ["descriptor", text] => self.descriptors.push(text),
             ["constant", index, kind, value] => {
-                constant(index, kind, value).map(|record| constants.extend(record))
+                self.constants.extend(constant(index, kind, value)?);
             }
-            ["argument", kind, value] => kind_of(kind)?
-                .words(value)
-                .map(|words| arguments.extend(words)),
-            _ => Err("no such line".to_string()),
-        };
-        said.map_err(|what| format!("{line}: {what}"))?;
+            ["argument", kind, value] => self.arguments.extend(kind_of(kind)?.words(value)?),
+            _ => return Err("no such line".to_string()),
+        }
+        Ok(())
     }
-    let ([max_stack], [max_locals]) = (&max_stack[..], &max_locals[..]) else {
+}
+
+fn sheet_of_method(lines: &[&str], listing: &[&str]) -> Result<Vec<u8>, String> {
+    let mut said = Said::default();
+    for line in lines {
+        said.line(line).map_err(|what| format!("{line}: {what}"))?;
+    }
+    let ([max_stack], [max_locals]) = (&said.max_stack[..], &said.max_locals[..]) else {
         return Err("max_stack and max_locals are said once".to_string());
     };
+    if said.descriptors.len() > 1 {
+        return Err("the descriptor is said at most once".to_string());
+    }
     let code = assemble(&listing.join("\n"))?;
-    if code.len() > 65_535 || arguments.len() > 16_383 {
+    let lengths = said.descriptors.iter().map(|text| text.len());
+    let mut lengths = lengths.chain([code.len(), 4 * said.arguments.len()]);
+    if lengths.any(|length| length > 65_535) {
         return Err("a record has at most 65,535 bytes".to_string());
     }
-    let code = records::record(b"CD", &code);
-    let sizes = records::sizes(*max_stack, *max_locals);
-    Ok([sizes, code, constants, records::arguments(&arguments)].concat())
+    let descriptors = said.descriptors.iter();
+    Ok([
+        records::sizes(*max_stack, *max_locals),
+        descriptors
+            .flat_map(|text| records::descriptor(text.as_bytes()))
+            .collect(),
+        records::record(b"CD", &code),
+        said.constants,
+        records::arguments(&said.arguments),
+    ]
+    .concat())
 }
 
 /// The record of a constant, from its index, its kind and its value.
@@ -105,6 +133,9 @@ mod tests {
         let bytes =
             "4C4D0004 00020002 43440002 06AC 4B490007 00010300000005 41520008 FFFFFFFFFFFFFFFF";
         assert_eq!(sheet(source), values::bytes(&bytes.replace(' ', "")));
+        let typed = "# typed\nmax_stack 1\nargument int 6\nmax_locals 1\ndescriptor (LA;)B # a byte\ncode\n  return\n";
+        let bytes = "4C4D0004 00010001 44530006 284C413B2942 43440001 B1 41520004 00000006";
+        assert_eq!(sheet(typed), values::bytes(&bytes.replace(' ', "")));
         assert_eq!(
             sheet("# cut\nbytes 4C 4D\nbytes 00\n"),
             Ok(b"LM\0".to_vec())
@@ -128,11 +159,37 @@ mod tests {
                 "max_stack 65536: 65536 is no number of 16 bits",
             ),
             (
+                "# a\ndescriptor ( )V\ncode\nnop",
+                "descriptor ( )V: no such line",
+            ),
+            ("# a\ndescriptor\ncode\nnop", "descriptor: no such line"),
+            (
+                "# a\nmax_stack 1\nmax_locals 1\ndescriptor ()V\ndescriptor ()V\ncode\nnop",
+                "the descriptor is said at most once",
+            ),
+            (
+                "# a\nmax_stack 1\nargument byte 1\ncode\nnop",
+                "argument byte 1: byte is no kind",
+            ),
+            (
                 "# a\nnothing",
                 "there is no code, and there are not only bytes",
             ),
         ] {
             assert_eq!(sheet(source), Err(what.to_string()));
         }
+    }
+
+    #[test]
+    fn a_body_has_its_length_in_16_bits() {
+        let typed = |length: usize| {
+            let descriptor = "(".repeat(length);
+            sheet(&format!(
+                "# a\nmax_stack 0\nmax_locals 0\ndescriptor {descriptor}\ncode\nreturn"
+            ))
+        };
+        assert!(typed(65_535).is_ok());
+        let what = "a record has at most 65,535 bytes";
+        assert_eq!(typed(65_536), Err(what.to_string()));
     }
 }

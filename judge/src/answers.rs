@@ -1,5 +1,6 @@
 //! What a step, a press and a run answer.
 
+use crate::returns::narrowed;
 use std::fmt;
 
 /// The number of include/workbook.h, and a value's low and high word.
@@ -29,6 +30,14 @@ impl Answer {
     /// A return with its number and the words of its value.
     pub const fn returned(number: u32, low: u32, high: u32) -> Answer {
         Answer { number, low, high }
+    }
+
+    /// The same of a method of a return type: an int is narrowed to it.
+    pub fn of_type(self, return_type: u32) -> Answer {
+        match self.number {
+            101 => Answer::returned(101, narrowed(return_type, self.low), 0),
+            _ => self,
+        }
     }
 
     const fn without_value(number: u32) -> Answer {

@@ -4,9 +4,9 @@
 //! made twice.
 //!
 //! - [`decode`], [`shapes`], [`operations`], [`floats`] and [`step`]: the questions of a step, the 164
-//!   instructions, the step and the run.
+//!   instructions, the step and the run; [`returns`]: what a return type asks and narrows.
 //! - [`history`] and [`plain_walk`]: forward and back with their log, and the walk without one.
-//! - [`sheet`]: the load.
+//! - [`sheet`]: the load; [`descriptor`]: the method descriptors in it.
 //! - [`printed_walk`]: the text of a walk.
 //! - [`lists`]: the inputs and the expected outputs of the programs of crates/, and the samples.
 //!
@@ -17,12 +17,14 @@
 
 pub mod answers;
 pub mod decode;
+pub mod descriptor;
 pub mod floats;
 pub mod history;
 pub mod lists;
 pub mod operations;
 pub mod plain_walk;
 pub mod printed_walk;
+pub mod returns;
 pub mod shapes;
 pub mod sheet;
 pub mod step;

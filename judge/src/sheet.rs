@@ -1,6 +1,7 @@
 //! The load: a sheet record by record, by the questions of docs/RULES.md.
 
 use crate::answers::ask;
+use crate::descriptor::{self, Descriptor};
 use crate::step::State;
 use std::ops::Range;
 
@@ -11,6 +12,8 @@ pub struct Sheet {
     pub max_stack: usize,
     /// Locals.
     pub max_locals: usize,
+    /// The method descriptor, where there is one.
+    descriptor: Option<Descriptor>,
     /// Where the code lies.
     pub code: Range<usize>,
     /// Index, tag, and where the value lies.
@@ -26,6 +29,7 @@ pub struct Sheet {
 enum Due {
     #[default]
     Limits,
+    DescriptorOrCode,
     Code,
     ConstantOrArguments,
     Nothing,
@@ -50,6 +54,7 @@ pub fn read(sheet: &[u8]) -> Result<Sheet, u32> {
         let next = body.end;
         match &sheet[at..at + 2] {
             b"LM" => read.limits(sheet, body)?,
+            b"DS" => read.descriptor(sheet, body)?,
             b"CD" => read.code(body)?,
             b"KI" => read.constant(sheet, body)?,
             b"AR" => read.arguments(body)?,
@@ -67,12 +72,20 @@ impl Sheet {
         ask(body.len() == 4, 24)?;
         self.max_stack = short(sheet, body.start);
         self.max_locals = short(sheet, body.start + 2);
+        self.due = Due::DescriptorOrCode;
+        Ok(())
+    }
+
+    /// A descriptor of any length passes 24.
+    fn descriptor(&mut self, sheet: &[u8], body: Range<usize>) -> Result<(), u32> {
+        ask(self.due == Due::DescriptorOrCode, 23)?;
+        self.descriptor = Some(descriptor::read(&sheet[body]).ok_or(31_u32)?);
         self.due = Due::Code;
         Ok(())
     }
 
     fn code(&mut self, body: Range<usize>) -> Result<(), u32> {
-        ask(self.due == Due::Code, 23)?;
+        ask(matches!(self.due, Due::DescriptorOrCode | Due::Code), 23)?;
         ask(!body.is_empty(), 24)?;
         self.code = body;
         self.due = Due::ConstantOrArguments;
@@ -95,7 +108,9 @@ impl Sheet {
     fn arguments(&mut self, body: Range<usize>) -> Result<(), u32> {
         ask(self.due == Due::ConstantOrArguments, 23)?;
         ask(body.len().is_multiple_of(4), 24)?;
-        ask(body.len() / 4 <= self.max_locals, 27)?;
+        let words = body.len() / 4;
+        ask(words <= self.max_locals, 27)?;
+        ask(self.descriptor.is_none_or(|said| said.places == words), 31)?;
         self.arguments = body;
         self.due = Due::Nothing;
         Ok(())
@@ -106,6 +121,7 @@ impl Sheet {
         State {
             max_stack: self.max_stack as u32,
             max_locals: self.max_locals as u32,
+            return_type: self.descriptor.map_or(0, |said| said.return_type.into()),
             ..State::default()
         }
     }
@@ -142,4 +158,54 @@ pub fn load(
         *slot = word(sheet, at);
     }
     Ok((state, read.code))
+}
+
+#[cfg(test)]
+mod tests {
+    use super::*;
+    use bytecode::records::{arguments, descriptor, record, sizes};
+
+    /// Loads a method of three locals and these words, with a descriptor or without.
+    fn loaded(text: Option<&str>, words: &[u32]) -> Result<State, u32> {
+        let described = text.map_or(vec![], |text| descriptor(text.as_bytes()));
+        let code = record(b"CD", &[0xB1]);
+        let sheet = [sizes(1, 3), described, code, arguments(words)].concat();
+        load(&sheet, &mut [0; 4], &mut [], &mut []).map(|(state, _)| state)
+    }
+
+    #[test]
+    fn the_state_has_the_return_type() {
+        let said = |text| loaded(text, &[]).map(|state| state.return_type);
+        assert_eq!(said(None), Ok(0));
+        for (text, letter) in [
+            ("()B", 'B'),
+            ("()C", 'C'),
+            ("()D", 'D'),
+            ("()F", 'F'),
+            ("()I", 'I'),
+            ("()J", 'J'),
+            ("()LA;", 'L'),
+            ("()[B", 'L'),
+            ("()[[LA;", 'L'),
+            ("()S", 'S'),
+            ("()V", 'V'),
+            ("()Z", 'Z'),
+        ] {
+            assert_eq!(said(Some(text)), Ok(letter.into()), "{text}");
+        }
+    }
+
+    #[test]
+    fn the_words_are_what_the_descriptor_takes() {
+        let number = |text, words: &[u32]| loaded(text, words).err();
+        assert_eq!(number(None, &[1]), None);
+        assert_eq!(number(Some("(IJ)V"), &[1]), Some(31));
+        assert_eq!(number(Some("(IJ)V"), &[1, 2]), Some(31));
+        assert_eq!(number(Some("(IJ)V"), &[1, 2, 3]), None);
+        assert_eq!(number(Some("(I)V"), &[1, 2, 3]), Some(31));
+        assert_eq!(number(Some("(JJ)V"), &[1, 2, 3, 4]), Some(27));
+        assert_eq!(number(Some("(Z)Z"), &[2]), None);
+        assert_eq!(number(Some("(V)V"), &[1, 2, 3, 4]), Some(31));
+        assert_eq!(number(Some(""), &[]), Some(31));
+    }
 }

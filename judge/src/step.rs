@@ -3,6 +3,7 @@
 use crate::answers::{ask, Answer};
 use crate::decode::{decode, Decoded};
 use crate::operations::{perform, Does, Few};
+use crate::returns::suits;
 use crate::shapes::{locals, places};
 
 /// What a step only reads.
@@ -29,6 +30,8 @@ pub struct State {
     pub depth: u32,
     /// Entries of the log.
     pub count: u64,
+    /// The first character of the return type. A number that is none of these asks and narrows nothing.
+    pub return_type: u32,
 }
 
 impl State {
@@ -71,7 +74,7 @@ pub fn has_constant(kinds: &[u8], opcode: u8, index: usize) -> bool {
     }
 }
 
-/// Questions 6 to 9: the depth under what the instruction pops.
+/// Questions 6 to 9 and that of a return's kind: the depth under what the instruction pops.
 fn ask_about(decoded: &Decoded, kinds: &[u8], state: &State) -> Result<usize, u32> {
     let (pops, pushes) = places(decoded.opcode).expect("a core opcode");
     let depth = state.depth as usize;
@@ -83,6 +86,7 @@ fn ask_about(decoded: &Decoded, kinds: &[u8], state: &State) -> Result<usize, u3
     let pooled = matches!(decoded.opcode, 18..=20);
     let found = !pooled || has_constant(kinds, decoded.opcode, decoded.index);
     ask(found, 10)?;
+    ask(suits(decoded.opcode, state.return_type), 32)?;
     Ok(depth - pops)
 }
 
@@ -96,7 +100,7 @@ pub fn decide(method: &Method, slots: &[u32], state: &State) -> Result<Effect, A
     let popped = &slots[base..state.max_locals as usize + state.depth as usize];
     let does = perform(method, &decoded, slots, popped);
     let distance = match does {
-        Does::End(answer) => return Err(answer),
+        Does::End(answer) => return Err(answer.of_type(state.return_type)),
         Does::Jump(distance) => distance.into(),
         _ => decoded.length as i64,
     };

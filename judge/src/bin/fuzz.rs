@@ -33,6 +33,8 @@ mod cases;
 mod codes;
 #[path = "fuzz/counts.rs"]
 mod counts;
+#[path = "fuzz/descriptors.rs"]
+mod descriptors;
 #[path = "fuzz/lent.rs"]
 mod lent;
 #[path = "fuzz/numbers.rs"]

@@ -1,6 +1,6 @@
 //! The sample methods of crates/step_traces, with what each is lent and the state that it starts from.
 //!
-//! A line of the file is one sample, 403 bytes with its line feed, all numbers in upper-case hexadecimal:
+//! A line of the file is one sample, 412 bytes with its line feed, all numbers in upper-case hexadecimal:
 //!
 //! ```text
 //! columns   0- 39  the name
@@ -17,12 +17,15 @@
 //!         368-375  pc
 //!         377-384  depth
 //!         386-401  count
+//!         403-410  the return type
 //! ```
 //!
 //! Bytes and words past those that are lent are 0. Each sample says how its walk ends. The first ones are
-//! those of lists/methods.txt; the last are the facts that none of these has (facts.rs).
+//! those of lists/methods.txt; then come the facts that none of these has (facts.rs), and the returns of
+//! each return type (returns.rs).
 
 use super::facts::facts;
+use super::returns;
 use super::text::{about, code, joined, number, rows, Settings};
 use crate::step::{Method, State};
 use std::collections::HashSet;
@@ -109,13 +112,14 @@ impl Lent {
                 pc: 0,
                 depth: depth as u32,
                 count: 7,
+                return_type: 0,
             },
             leaves: None,
         }
     }
 }
 
-const KEYWORDS: [&str; 12] = [
+const KEYWORDS: [&str; 13] = [
     "max_stack",
     "locals",
     "stack",
@@ -124,6 +128,7 @@ const KEYWORDS: [&str; 12] = [
     "pc",
     "depth",
     "count",
+    "returns",
     "kinds",
     "words",
     "slots",
@@ -160,9 +165,24 @@ fn read(row: &[&str]) -> Result<Sample, String> {
             pc: *pc as u32,
             depth: *depth as u32,
             count: *count,
+            return_type: 0,
         };
     }
+    if let Some(words) = said.words("returns") {
+        sample.state.return_type = return_type(words)?;
+    }
     Ok(sample)
+}
+
+/// A return type: a letter, which stands for its ASCII number, or any number.
+fn return_type(words: &[&str]) -> Result<u32, String> {
+    match words {
+        [letter] if letter.len() == 1 && !letter.starts_with(|first: char| first.is_numeric()) => {
+            Ok(letter.as_bytes()[0].into())
+        }
+        [word] => number(word),
+        _ => Err("a method has one return type".to_string()),
+    }
 }
 
 /// The kinds and words of a pool, each KIND:WORD.
@@ -189,6 +209,7 @@ pub fn samples(facts_file: &str) -> Result<Vec<Sample>, String> {
             samples.push(fact);
         }
     }
+    samples.extend(returns::samples()?);
     let mut names = HashSet::new();
     match samples.iter().find(|sample| !names.insert(&sample.name)) {
         None => Ok(samples),
@@ -233,6 +254,7 @@ fn line(sample: &Sample) -> Result<String, String> {
         filled(slots, 8, 12),
         format!("{:04X} {:04X}", state.max_stack, state.max_locals),
         format!("{:08X} {:08X} {:016X}", state.pc, state.depth, state.count),
+        format!("{:08X}", state.return_type),
     ];
     Ok(parts.join(" "))
 }

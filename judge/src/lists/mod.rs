@@ -7,6 +7,7 @@ pub mod decoding;
 pub mod facts;
 pub mod methods;
 pub mod presses;
+pub mod returns;
 pub mod samples;
 pub mod scatter;
 pub mod sheets;

@@ -10,17 +10,17 @@
 //! kinds NUMBERS                 the constants' kinds
 //! words WORDS                   the constants' words
 //! slots WORDS                   the lent slots before: the locals, the stack, and slots past the frame
-//! state FIVE NUMBERS            before: max_stack, max_locals, pc, depth and count
+//! state SIX NUMBERS             before: max_stack, max_locals, pc, depth, count and the return type
 //! step pc op depth top          then a line for each ordinary step without history, as in a printed walk
 //! END                           how the walk ended: return and its value, throw arithmetic, refused N, or stopped, after 60 steps
 //! slots WORDS                   after the walk
-//! state FIVE NUMBERS
+//! state SIX NUMBERS
 //! run 60 STEPS END              a run with budget 60 from the start on fresh slots, the steps that it took, how it ended
 //! slots WORDS                   after that run
-//! state FIVE NUMBERS
+//! state SIX NUMBERS
 //! run HALF STEPS END            the same with half of the walk's steps, rounded down, as budget
 //! slots WORDS
-//! state FIVE NUMBERS
+//! state SIX NUMBERS
 //! (an empty line)
 //! ```
 
@@ -45,11 +45,12 @@ pub fn shown(slots: &[u32], state: &State) -> [String; 2] {
         pc,
         depth,
         count,
+        return_type,
     } = state;
     let slots = listed("slots", slots, |word| format!("{word:08X}"));
     [
         slots,
-        format!("state {max_stack} {max_locals} {pc} {depth} {count}"),
+        format!("state {max_stack} {max_locals} {pc} {depth} {count} {return_type}"),
     ]
 }
 

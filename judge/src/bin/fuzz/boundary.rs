@@ -9,7 +9,7 @@ use judge::step::{self, Method, State};
 
 /// Makes a call's changes, and gives its number.
 pub fn call(function: Function, memory: &mut Memory) -> u32 {
-    let state_reaches = memory.state.len() >= 6;
+    let state_reaches = memory.state.len() >= 7;
     let both_reach = state_reaches && memory.answer.len() >= 4;
     match function {
         Function::Load if !both_reach => sheet::read(memory.sheet.part()).err().unwrap_or(26),
@@ -27,7 +27,7 @@ pub fn call(function: Function, memory: &mut Memory) -> u32 {
     }
 }
 
-/// The state of six words.
+/// The state of seven words.
 fn state(words: &[u32]) -> State {
     State {
         max_stack: words[0],
@@ -35,6 +35,7 @@ fn state(words: &[u32]) -> State {
         pc: words[2],
         depth: words[3],
         count: u64::from(words[4]) | u64::from(words[5]) << 32,
+        return_type: words[6],
     }
 }
 
@@ -47,8 +48,9 @@ fn stand(memory: &mut Memory, state: &State) {
         state.depth,
         state.count as u32,
         (state.count >> 32) as u32,
+        state.return_type,
     ];
-    memory.state.part_mut()[..6].copy_from_slice(&words);
+    memory.state.part_mut()[..7].copy_from_slice(&words);
 }
 
 /// Does something with the method, the slots, the log and the state of a memory, and writes the state.

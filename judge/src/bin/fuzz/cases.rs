@@ -53,7 +53,7 @@ fn lent(random: &mut Random, sheet: &[u8], needs: [usize; 2], large: bool, bare:
         _ => random.below(12),
     };
     let log = random.around(10 * entries);
-    let (state, answer) = (short_part(random, 6), short_part(random, 4));
+    let (state, answer) = (short_part(random, 7), short_part(random, 4));
     let mut part = |length: usize| {
         let words = random.words(length);
         Lent::guarded(&words, random, bare)
@@ -122,6 +122,7 @@ pub fn standing(random: &mut Random, bare: bool) -> Memory {
     }
     move_to(random, &mut memory);
     set_count(random, &mut memory);
+    set_return_type(random, &mut memory);
     memory
 }
 
@@ -175,9 +176,34 @@ fn set_count(random: &mut Random, memory: &mut Memory) {
     }
 }
 
-/// Puts an instruction that works on the stack where the state stands, with operands of its kind.
+/// Another return type, seldom a number that is none.
+fn set_return_type(random: &mut Random, memory: &mut Memory) {
+    let letter = u32::from(random.pick(b"BCDFIJLSVZ"));
+    let word = random.word();
+    let number = match random.below(16) {
+        0 => 0,
+        1 => word,
+        // A small letter, another byte and another bit.
+        2 => random.pick(&[
+            letter | 0x20,
+            letter << 8,
+            letter << 24,
+            letter | 0x100,
+            letter ^ 0x80,
+        ]),
+        3 => u32::from(b'['),
+        4..=8 => u32::from(random.pick(b"BCSZ")),
+        _ => letter,
+    };
+    set(memory, 6, number);
+}
+
+/// Puts an instruction that works on the stack, or a return, where the state stands, with operands of its kind.
 pub fn instruct(random: &mut Random, memory: &mut Memory) {
-    let opcode = 87 + random.below(66) as u8;
+    let opcode = match random.below(6) {
+        0 => random.pick(&[172, 172, 172, 173, 174, 175, 176, 177]),
+        _ => 87 + random.below(66) as u8,
+    };
     let (pops, pushes) = places(opcode).unwrap_or((0, 0));
     let [max_stack, max_locals] = [0, 1].map(|place| memory.state_word(place) as usize);
     let Some(room) = max_stack.checked_sub(pops.max(pushes)) else {
@@ -196,8 +222,15 @@ pub fn instruct(random: &mut Random, memory: &mut Memory) {
     *byte = opcode;
     let long = match opcode {
         96..=131 => opcode % 2 == 1,
-        _ => matches!(opcode, 136..=138 | 142..=144 | 148 | 151 | 152),
+        _ => matches!(opcode, 136..=138 | 142..=144 | 148 | 151 | 152 | 173 | 175),
     };
+    popped.copy_from_slice(&operands(random, pops, long));
+    set(memory, 2, pc as u32);
+    set(memory, 3, depth as u32);
+}
+
+/// The words of ints and floats, or of longs and doubles, some of them twice.
+fn operands(random: &mut Random, pops: usize, long: bool) -> Vec<u32> {
     let mut operands = vec![];
     while operands.len() < pops {
         let (last, size) = (operands.len(), 1 + usize::from(long));
@@ -210,18 +243,17 @@ pub fn instruct(random: &mut Random, memory: &mut Memory) {
             operands.push(random.word());
         }
     }
-    popped.copy_from_slice(&operands[..pops]);
-    set(memory, 2, pc as u32);
-    set(memory, 3, depth as u32);
+    operands.truncate(pops);
+    operands
 }
 
 /// Changes something between two calls.
 pub fn disturb(random: &mut Random, memory: &mut Memory) {
     let word = random.word();
-    match random.below(24) {
+    match random.below(26) {
         0..=9 => move_to(random, memory),
         10..=13 => set_count(random, memory),
-        14 if random.once_in(2) => set(memory, random.below(8), word),
+        14 if random.once_in(2) => set(memory, random.below(9), word),
         14..=16 => poke(random, memory.slots.part_mut(), word),
         17 => poke(random, memory.log.part_mut(), word),
         18 => poke(random, memory.words.part_mut(), word),
@@ -235,8 +267,9 @@ pub fn disturb(random: &mut Random, memory: &mut Memory) {
             let length = random.around(10 * (memory.count().min(40) as usize));
             memory.log.resize(length + random.pick(&[0, 10]), random);
         }
+        23 | 24 => set_return_type(random, memory),
         _ => {
-            let (state, answer) = (short_part(random, 6), short_part(random, 4));
+            let (state, answer) = (short_part(random, 7), short_part(random, 4));
             memory.state.resize(state, random);
             memory.answer.resize(answer, random);
         }

@@ -15,6 +15,9 @@ pub struct Counts {
     opcodes: [u64; 256],
     /// Steps that runs have reported.
     run_steps: u64,
+    /// Accepted sheets with a descriptor, and ints that a step or a forward returned narrowed.
+    typed: u64,
+    narrowed: u64,
     /// How often back took forwards back, a list was its presses, a run was its steps.
     pub walks: u64,
     pub lists: u64,
@@ -28,6 +31,8 @@ impl Counts {
             numbers: [[0; NUMBERS]; 7],
             opcodes: [0; 256],
             run_steps: 0,
+            typed: 0,
+            narrowed: 0,
             walks: 0,
             lists: 0,
             runs: 0,
@@ -42,6 +47,14 @@ impl Counts {
         if one && matches!(number, 0 | 101..) {
             let opcode = before.code()[before.state_word(2) as usize];
             self.opcodes[usize::from(opcode)] += 1;
+        }
+        if one && number == 101 {
+            let top = before.state_word(1) + before.state_word(3) - 1;
+            let int = before.slots.part()[top as usize];
+            self.narrowed += u64::from(after.answer.part()[0] != int);
+        }
+        if function == Function::Load && number == 0 {
+            self.typed += u64::from(after.state_word(6) != 0);
         }
         if function == Function::Presses && number == 0 {
             let answers = after.answers.part().chunks_exact(3);
@@ -77,6 +90,8 @@ impl Counts {
         let least = least.unwrap_or(0);
         println!("{many} opcodes stepped over or ended in, the rarest {least} times");
         println!("{} steps in runs", self.run_steps);
+        let (typed, narrowed) = (self.typed, self.narrowed);
+        println!("{typed} accepted sheets with a descriptor, {narrowed} ints narrowed");
         let (walks, lists, runs) = (self.walks, self.lists, self.runs);
         println!("{walks} walks there and back, {lists} lists and {runs} runs one by one");
     }

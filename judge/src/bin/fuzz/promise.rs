@@ -34,11 +34,11 @@ pub fn kept(function: Function, before: &Memory, after: &Memory, number: u32) ->
     guards(before, after)?;
     only_read(function, before, after)?;
     let allowed = match function {
-        Function::Load => matches!(number, 0 | 21..=27),
-        Function::Step => matches!(number, 0..=11 | 101..=106 | 110),
-        Function::Forward => matches!(number, 0..=12 | 101..=106 | 110),
+        Function::Load => matches!(number, 0 | 21..=27 | 31),
+        Function::Step => matches!(number, 0..=11 | 32 | 101..=106 | 110),
+        Function::Forward => matches!(number, 0..=12 | 32 | 101..=106 | 110),
         Function::Back => matches!(number, 0..=3 | 13 | 14),
-        Function::Run => matches!(number, 1..=11 | 101..=106 | 110 | 120),
+        Function::Run => matches!(number, 1..=11 | 32 | 101..=106 | 110 | 120),
         Function::Presses => matches!(number, 0 | 1),
     };
     check(allowed, "the number is none of this function's")?;
@@ -46,8 +46,8 @@ pub fn kept(function: Function, before: &Memory, after: &Memory, number: u32) ->
         Function::Back | Function::Presses => usize::MAX,
         _ => before.answer.len(),
     };
-    if before.state.len() < 6 || answer < 4 {
-        let refused = matches!((function, number), (Function::Load, 21..=27) | (_, 1));
+    if before.state.len() < 7 || answer < 4 {
+        let refused = matches!((function, number), (Function::Load, 21..=27 | 31) | (_, 1));
         check(refused, "too few words of state or answer were taken")?;
         return nothing(before, after);
     }
@@ -102,12 +102,32 @@ fn nothing(before: &Memory, after: &Memory) -> Kept {
     check(before == after, "something was written")
 }
 
-/// A state that a granted call gives: the sizes stay, pc and depth fit them.
+/// A return has the kind of the state's return type, where that is one, and its int fits it.
+fn suits(before: &Memory, number: u32, low: u32) -> Kept {
+    let any = i32::MIN..=i32::MAX;
+    let (own, ints) = match char::from_u32(before.state_word(6)) {
+        Some('Z') => (101, 0..=1),
+        Some('B') => (101, -128..=127),
+        Some('C') => (101, 0..=65_535),
+        Some('S') => (101, -32_768..=32_767),
+        Some('I') => (101, any),
+        Some('F') => (102, any),
+        Some('L') => (103, any),
+        Some('J') => (104, any),
+        Some('D') => (105, any),
+        Some('V') => (106, any),
+        _ => return check(number != 32, "32 without a return type"),
+    };
+    let right = number == own && ints.contains(&(low as i32));
+    check(!is_return(number) || right, "a return of another type")
+}
+
+/// A state that a granted call gives: the sizes and the return type stay, pc and depth fit them.
 fn stands(before: &Memory, after: &Memory) -> Kept {
     let (old, new) = (before.state.part(), after.state.part());
     check(
         old[..2] == new[..2] && old[6..] == new[6..],
-        "a size changed",
+        "a size or the return type changed",
     )?;
     check((new[2] as usize) < before.code.len(), "pc is outside")?;
     check(new[3] <= new[0], "depth is above max_stack")?;
@@ -126,7 +146,9 @@ fn load(before: &Memory, after: &Memory, number: u32) -> Kept {
     }
     let state = after.state.part();
     check(state[2..6] == [0; 4], "the state does not begin at 0")?;
-    check(state[6..] == before.state.part()[6..], "state words 6 on")?;
+    let letter = char::from_u32(state[6]).is_some_and(|first| "\0BCDFIJLSVZ".contains(first));
+    check(letter, "no return type")?;
+    check(state[7..] == before.state.part()[7..], "state words 7 on")?;
     let answer = after.answer.part();
     check(
         answer[2..] == before.answer.part()[2..],
@@ -147,6 +169,7 @@ fn load(before: &Memory, after: &Memory, number: u32) -> Kept {
 
 fn one_step(function: Function, before: &Memory, after: &Memory, number: u32) -> Kept {
     let (old, new) = (before.answer.part(), after.answer.part());
+    suits(before, number, new[0])?;
     if is_return(number) {
         check(old[2..] == new[2..], "answer words 2 on were written")?;
         check(matches!(number, 104 | 105) || new[1] == 0, "answer word 1")?;
@@ -255,6 +278,7 @@ fn run(before: &Memory, after: &Memory, number: u32) -> Kept {
         is_return(number) || new[..2] == [0; 2],
         "a value without a return",
     )?;
+    suits(before, number, new[0])?;
     check(after.count() == 0, "count is not 0")?;
     stands(before, after)
 }
@@ -270,6 +294,9 @@ fn presses(before: &Memory, after: &Memory, number: u32) -> Kept {
     let (answered, past) = new.split_at(3 * list.len());
     check(past == &old[answered.len()..], "past the last answer")?;
     let (count, written, granted) = follow(list, answered, before.count())?;
+    for answer in answered.chunks_exact(3) {
+        suits(before, answer[0], answer[1])?;
+    }
     let words = changed(before.log.part(), after.log.part());
     check(within(&words, written), "another log word was written")?;
     check(after.count() == count, "count is not what the answers say")?;
@@ -291,7 +318,7 @@ fn follow(
     for (&press, answer) in list.iter().zip(answered.chunks_exact(3)) {
         let allowed = match press {
             0 => matches!(answer[0], 0..=3 | 13 | 14),
-            _ => matches!(answer[0], 0..=12 | 101..=106 | 110),
+            _ => matches!(answer[0], 0..=12 | 32 | 101..=106 | 110),
         };
         check(allowed, "an answer is none of its press's")?;
         check(

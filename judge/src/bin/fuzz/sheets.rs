@@ -1,10 +1,14 @@
 //! Sheets: samples and others, whole and spoiled.
 
 use super::codes::{code, long_code, shape};
+use super::descriptors;
 use super::random::Random;
-use bytecode::records::{arguments, constant, record, sizes};
+use bytecode::records::{arguments, constant, descriptor, record, sizes};
 
-const SAMPLES: [&[u8]; 18] = [
+const SAMPLES: [&[u8]; 24] = [
+    include_bytes!("../../../../samples/boolean_return.sheet"),
+    include_bytes!("../../../../samples/byte_return.sheet"),
+    include_bytes!("../../../../samples/char_return.sheet"),
     include_bytes!("../../../../samples/division_by_zero.sheet"),
     include_bytes!("../../../../samples/endless.sheet"),
     include_bytes!("../../../../samples/iinc_255.sheet"),
@@ -18,8 +22,11 @@ const SAMPLES: [&[u8]; 18] = [
     include_bytes!("../../../../samples/nan_comparison.sheet"),
     include_bytes!("../../../../samples/printed.sheet"),
     include_bytes!("../../../../samples/refused_length.sheet"),
+    include_bytes!("../../../../samples/refused_return.sheet"),
     include_bytes!("../../../../samples/refused_stack.sheet"),
+    include_bytes!("../../../../samples/refused_words.sheet"),
     include_bytes!("../../../../samples/shifts.sheet"),
+    include_bytes!("../../../../samples/short_return.sheet"),
     include_bytes!("../../../../samples/swap.sheet"),
     include_bytes!("../../../../samples/tableswitch_highest.sheet"),
     include_bytes!("../../../../samples/wide.sheet"),
@@ -34,6 +41,12 @@ fn built(random: &mut Random, large: bool) -> Vec<u8> {
         max_locals = random.pick(&[0, 4, 16_383, 65_535]);
     }
     let mut sheet = sizes(max_stack as u16, max_locals as u16);
+    let mut places = None;
+    if random.once_in(2) {
+        let (text, many) = descriptors::descriptor(random, max_locals.min(300), large);
+        sheet.extend(descriptor(&text));
+        places = Some(many);
+    }
     let mut code = if large {
         long_code(random, &shape)
     } else {
@@ -42,8 +55,10 @@ fn built(random: &mut Random, large: bool) -> Vec<u8> {
     code.truncate(65_535);
     sheet.extend(record(b"CD", &code));
     sheet.extend(constants(random, shape.kinds, large));
-    let many = match random.below(12) {
-        0 => random.around(max_locals),
+    let many = match (random.below(12), places) {
+        (0, _) => random.around(max_locals),
+        (1, Some(places)) => random.around(places),
+        (_, Some(places)) => places,
         _ => random.below(max_locals + 1),
     };
     sheet.extend(arguments(&random.words(many.min(16_383))));
@@ -111,9 +126,12 @@ fn spoil(random: &mut Random, sheet: &mut Vec<u8>) {
         3 => sheet[at..end].reverse(),
         4 => sheet.extend(random.bytes(1 + end - at)),
         5 | 6 => {
-            let mark = random.pick(&[b"LM", b"CD", b"KI", b"AR", b"lm", b"DS"]);
+            let mark = random.pick(&[b"LM", b"CD", b"KI", b"AR", b"ds", b"DS", b"DS"]);
             let length = random.pick(&[0, 1, 3, 4, 4, 5, 7, 8, 11]);
-            let body = random.bytes(length);
+            let body = match mark {
+                b"DS" if length > 3 => descriptors::descriptor(random, 4, false).0,
+                _ => random.bytes(length),
+            };
             sheet.splice(at..at, record(mark, &body));
         }
         _ => {

@@ -8,7 +8,7 @@
 //! sheet N                          where the load is refused, and then only the empty line
 //! presses N                        the number that the list comes back with: 0, or 1 with fewer than three answer words for each press
 //! answers ITEMS                    for each press its number, for 101 to 105 with a colon and the value, 8 or 16 digits; - after 1
-//! state FIVE NUMBERS               after the list: max_stack, max_locals, pc, depth and count
+//! state SIX NUMBERS                after the list: max_stack, max_locals, pc, depth, count and the return type
 //! slots WORDS                      all that are lent
 //! log SUM                          the checksum of all log words
 //! words SUM                        that of all answer words
@@ -271,7 +271,8 @@ impl Totals {
     /// The line of the whole. Every number of a press is met but 1, which no load leaves to be met, and
     /// every method's end.
     fn line(&self, lists: &Lists) -> Result<String, String> {
-        let numbers = [0].into_iter().chain(2..=14).chain(101..=106).chain([110]);
+        let numbers = [0].into_iter().chain(2..=14).chain([32]);
+        let numbers = numbers.chain(101..=106).chain([110]);
         expect(self.numbers.iter().copied().eq(numbers), || {
             format!("only {:?} are met", self.numbers)
         })?;

@@ -108,8 +108,9 @@ pub fn methods() -> Result<Methods, String> {
     })
 }
 
-const KEYWORDS: [&str; 6] = [
+const KEYWORDS: [&str; 7] = [
     "max_stack",
+    "descriptor",
     "arguments",
     "more",
     "constants",
@@ -122,22 +123,7 @@ fn read(row: &[&str]) -> Result<Pressed, String> {
         return Err("a method has four columns".to_string());
     };
     let said = Settings::read(lent, &KEYWORDS)?;
-    let arguments: Vec<u32> = said
-        .values("arguments")?
-        .unwrap_or_default()
-        .into_iter()
-        .flatten()
-        .collect();
-    let max_stack: u16 = said.number("max_stack")?.ok_or("max_stack is not said")?;
-    let max_locals = arguments.len() as u16 + said.number("more")?.unwrap_or(0);
-    let sheet = [
-        records::sizes(max_stack, max_locals),
-        records::record(b"CD", &code(listing)?),
-        constants(said.words("constants").unwrap_or_default())?,
-        records::arguments(&arguments),
-    ]
-    .concat();
-    let frame = usize::from(max_stack) + usize::from(max_locals);
+    let (sheet, frame) = sheet_and_frame(&said, listing)?;
     let slots = frame + said.number("spare")?.unwrap_or(0);
     let pool = said.number("pool")?.unwrap_or(0);
     let begun = loaded(&sheet, slots, pool, Begin::LOAD);
@@ -155,6 +141,26 @@ fn read(row: &[&str]) -> Result<Pressed, String> {
         slots,
         pool,
     })
+}
+
+/// The sheet of a method, and how many slots its frame has.
+fn sheet_and_frame(said: &Settings, listing: &str) -> Result<(Vec<u8>, usize), String> {
+    let arguments = said.values("arguments")?.unwrap_or_default();
+    let arguments: Vec<u32> = arguments.into_iter().flatten().collect();
+    let max_stack: u16 = said.number("max_stack")?.ok_or("max_stack is not said")?;
+    let max_locals = arguments.len() as u16 + said.number("more")?.unwrap_or(0);
+    let descriptors = said.words("descriptor").unwrap_or_default().iter();
+    let sheet = [
+        records::sizes(max_stack, max_locals),
+        descriptors
+            .flat_map(|text| records::descriptor(text.as_bytes()))
+            .collect(),
+        records::record(b"CD", &code(listing)?),
+        constants(said.words("constants").unwrap_or_default())?,
+        records::arguments(&arguments),
+    ];
+    let frame = usize::from(max_stack) + usize::from(max_locals);
+    Ok((sheet.concat(), frame))
 }
 
 /// The records of constants, each an index, a kind and a value.

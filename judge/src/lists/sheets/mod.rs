@@ -25,7 +25,9 @@
 //!
 //! Each sample says what it gives; a load that gives something else is an error.
 
+pub mod descriptors;
 pub mod lent_memory;
+pub mod made_descriptors;
 pub mod records;
 pub mod right_records;
 pub mod two_refusals;
@@ -167,6 +169,8 @@ pub fn samples() -> Result<Samples, String> {
     right_records::largest_records(&mut samples);
     wrong_records::bytes_after(&mut samples);
     two_refusals::all(&mut samples)?;
+    descriptors::all(&mut samples)?;
+    made_descriptors::all(&mut samples)?;
     let mut names = HashSet::new();
     let fits = |sample: &Sample| {
         sample.name.len() <= 40 && sample.slots <= 300 && sample.sheet.len() <= 66_000

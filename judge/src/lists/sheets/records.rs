@@ -1,9 +1,10 @@
 //! Sheets as text: records between semicolons.
 //!
 //! ```text
-//! LM CD KI AR             good records: limits 2 3; code 06 AC; int 1; arguments 5 6
-//! printed, rich           whole sheets
+//! LM DS CD KI AR          good records: limits 2 3; descriptor (II)I; code 06 AC; int 1; arguments 5 6
+//! printed, rich, typed    whole sheets
 //! limits A B              max_stack and max_locals
+//! descriptor TEXT         in ASCII, without a semicolon
 //! code BYTES
 //! int I [DIGITS]          a constant at an index; so are float, long and double, each with a value of its own unless said otherwise
 //! entry I TAG DIGITS      a constant of any tag
@@ -17,7 +18,7 @@
 //! Bytes and values are hexadecimal, other numbers are decimal.
 
 use crate::lists::text::number;
-use bytecode::records::{arguments, constant, record, sizes};
+use bytecode::records::{arguments, constant, descriptor, record, sizes};
 use bytecode::values::{bytes, Kind};
 
 /// The sheet of docs/RULES.md.
@@ -26,11 +27,16 @@ pub const PRINTED: &str = "limits 2 0; code 06 07 60 AC; arguments";
 pub const RICH: &str = "limits 3 4; code 06 07 60 12 01 60 AC; int 1; float 2 FFA12345; long 3; double 5 7FF0000000000001; \
                         int 9 FFFFFFFE; arguments 5 4294967295 2147483648";
 
+/// A sheet with the descriptor `(IJ)[La/b;`.
+pub const TYPED: &str = "limits 3 4; record DS 28 49 4A 29 5B 4C 61 2F 62 3B; code 06 07 60 12 01 60 AC; int 1; arguments 5 6 7";
+
 /// The sheets that good records begin: nothing, `LM`, and so on.
-pub const BEGINNINGS: [(&str, &str); 7] = [
+pub const BEGINNINGS: [(&str, &str); 9] = [
     ("first", ""),
     ("after_lm", "LM"),
+    ("after_ds", "LM; DS"),
     ("after_cd", "LM; CD"),
+    ("after_ds_cd", "LM; DS; CD"),
     ("after_ki", "LM; CD; KI"),
     ("after_two_ki", "LM; CD; KI; long 2"),
     ("after_ar", "LM; CD; KI; AR"),
@@ -52,12 +58,15 @@ pub fn sheet(text: &str) -> Result<Vec<u8>, String> {
 fn one(words: &[&str]) -> Result<Vec<u8>, String> {
     Ok(match words {
         ["LM"] => sizes(2, 3),
+        ["DS"] => descriptor(b"(II)I"),
         ["CD"] => record(b"CD", &[0x06, 0xAC]),
         ["KI"] => one(&["int", "1"])?,
         ["AR"] => arguments(&[5, 6]),
         ["printed"] => sheet(PRINTED)?,
         ["rich"] => sheet(RICH)?,
+        ["typed"] => sheet(TYPED)?,
         ["limits", max_stack, max_locals] => sizes(number(max_stack)?, number(max_locals)?),
+        ["descriptor", text] => descriptor(text.as_bytes()),
         ["code", digits @ ..] => record(b"CD", &bytes(&digits.concat())?),
         ["entry", index, tag, digits] => constant(number(index)?, number(tag)?, &bytes(digits)?),
         ["arguments", words @ ..] => {

@@ -29,6 +29,12 @@ pub fn whole_sheets(samples: &mut Samples) {
         .slots(7)
         .pool(10);
     rich.holds(&RICH_KINDS[..10], &RICH_WORDS[..10], &RICH_SLOTS[..7]);
+    let typed = samples.add("typed", GOOD, "typed").slots(8).pool(3);
+    typed.holds(
+        &[0, 3, 0],
+        &[0, 0x2A, 0],
+        &[5, 6, 7, 0, 0, 0, 0, 0xBEEF_0007],
+    );
 }
 
 /// Constants of every kind, at every place that may be theirs, with any value.

@@ -1,18 +1,22 @@
 //! Sheets that are cut at every byte, and sheets with one byte changed.
 
-use super::records::{sheet, PRINTED, RICH};
+use super::records::{sheet, PRINTED, RICH, TYPED};
 use super::{Samples, GOOD};
 
-/// Where the records of the printed sheet and of the rich one begin.
+/// Where the records of the whole sheets begin.
 const PRINTED_STARTS: [usize; 3] = [0, 8, 16];
 const RICH_STARTS: [usize; 8] = [0, 8, 19, 30, 41, 56, 71, 82];
+const TYPED_STARTS: [usize; 5] = [0, 8, 22, 33, 44];
 
 /// The byte is the same.
 const SAME: u32 = u32::MAX;
 
-/// For bytes of the rich sheet: what it gives with the lowest bit flipped, with 0 and with 255. Both bytes of each mark give 22.
+/// A byte's place, and what the sheet gives with its lowest bit flipped, with 0 and with 255.
+type Change = (usize, [u32; 3]);
+
+/// Bytes of the rich sheet. Both bytes of each mark give 22.
 #[rustfmt::skip]
-const CHANGES: [(usize, [u32; 3]); 45] = [
+const RICH_CHANGES: [Change; 45] = [
     (2, [21, SAME, 21]), (3, [24, 24, 21]), (4, [26, SAME, 26]), (5, [GOOD, GOOD, 26]), (6, [26, SAME, 26]), (7, [GOOD, 27, 26]),
     (10, [21, SAME, 21]), (11, [21, 24, 21]), (12, [GOOD; 3]), (18, [GOOD; 3]),
     (21, [21, SAME, 21]), (22, [24, 24, 21]), (23, [25, SAME, 25]), (24, [25; 3]), (25, [25; 3]), (26, [GOOD, SAME, GOOD]),
@@ -25,11 +29,22 @@ const CHANGES: [(usize, [u32; 3]); 45] = [
     (84, [21, SAME, 21]), (85, [21, 22, 21]), (86, [GOOD, SAME, GOOD]), (97, [GOOD, SAME, GOOD]),
 ];
 
+/// Bytes of the sheet with a descriptor.
+#[rustfmt::skip]
+const TYPED_CHANGES: [Change; 17] = [
+    (3, [24, 24, 21]), (7, [GOOD, 27, 26]),
+    (10, [21, SAME, 21]), (11, [31, 31, 21]), (12, [31; 3]), (13, [31; 3]), (14, [31; 3]), (15, [31; 3]), (16, [31; 3]), (17, [31; 3]),
+    (18, [GOOD, 31, 31]), (19, [31; 3]), (20, [GOOD, 31, 31]), (21, [31; 3]),
+    (46, [21, SAME, 21]), (47, [21, 31, 21]), (59, [GOOD; 3]),
+];
+
 /// Sheets cut at every byte, and sheets with a changed byte.
 pub fn all(samples: &mut Samples) {
     cut(samples, "printed", PRINTED, &PRINTED_STARTS);
     cut(samples, "rich", RICH, &RICH_STARTS);
-    changed(samples);
+    changed(samples, "rich", RICH, &RICH_STARTS, &RICH_CHANGES);
+    cut(samples, "typed", TYPED, &TYPED_STARTS);
+    changed(samples, "typed", TYPED, &TYPED_STARTS, &TYPED_CHANGES);
 }
 
 /// A cut between two records leaves out `AR`, another one cuts a record.
@@ -45,11 +60,11 @@ fn cut(samples: &mut Samples, name: &str, text: &str, starts: &[usize]) {
     }
 }
 
-fn changed(samples: &mut Samples) {
-    let whole = sheet(RICH).expect("a good sheet");
-    let marks = RICH_STARTS.iter().flat_map(|&start| [start, start + 1]);
-    let mut changes: Vec<(usize, [u32; 3])> =
-        marks.map(|place| (place, [22; 3])).chain(CHANGES).collect();
+fn changed(samples: &mut Samples, name: &str, text: &str, starts: &[usize], changes: &[Change]) {
+    let whole = sheet(text).expect("a good sheet");
+    let marks = starts.iter().flat_map(|&start| [start, start + 1]);
+    let marks = marks.map(|place| (place, [22; 3]));
+    let mut changes: Vec<Change> = marks.chain(changes.iter().copied()).collect();
     changes.sort();
     for (place, answers) in changes {
         let byte = whole[place];
@@ -62,7 +77,7 @@ fn changed(samples: &mut Samples) {
                 let mut changed = whole.clone();
                 changed[place] = new;
                 samples
-                    .add_sheet(format!("rich_byte_{place}_{how}"), gives, changed)
+                    .add_sheet(format!("{name}_byte_{place}_{how}"), gives, changed)
                     .slots(10);
             }
         }

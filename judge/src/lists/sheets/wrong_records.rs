@@ -11,6 +11,7 @@ pub fn all(samples: &mut Samples) {
     wrong_orders(samples);
     missing_records(samples);
     wrong_lengths(samples);
+    wrong_argument_lengths(samples);
     wrong_tags(samples);
     wrong_indices(samples);
     last_indices(samples);
@@ -26,7 +27,7 @@ fn cut_records(samples: &mut Samples) {
                 &format!("{beginning}; zeros {length}"),
             );
         }
-        for mark in ["LM", "CD", "KI", "AR", "XX"] {
+        for mark in ["LM", "DS", "CD", "KI", "AR", "XX"] {
             samples.add(
                 format!("{mark}_one_byte_short_{place}"),
                 21,
@@ -49,7 +50,7 @@ fn unknown_marks(samples: &mut Samples) {
             22,
             &format!("{beginning}; zeros 4"),
         );
-        for mark in ["XX", "DS", "lm", "cd", "ki", "ar"] {
+        for mark in ["XX", "SD", "lm", "ds", "cd", "ki", "ar"] {
             samples.add(
                 format!("unknown_{mark}_{place}"),
                 22,
@@ -61,12 +62,18 @@ fn unknown_marks(samples: &mut Samples) {
 
 /// 22: marks that are nearly right.
 fn nearly_right_marks(samples: &mut Samples) {
-    let marks: [(&str, &[&str], &str, &str); 4] = [
+    let marks: [(&str, &[&str], &str, &str); 5] = [
         (
             "LM",
             &["Lm", "lM", "ML", "LD", "LR", "L_", "_M"],
             "",
             "00020003; CD; AR",
+        ),
+        (
+            "DS",
+            &["Ds", "dS", "DD", "SS", "DM", "LS", "CS"],
+            "LM",
+            "28494929 49; CD; AR",
         ),
         ("CD", &["Cd", "cD", "DC", "CM", "CI"], "LM", "06AC; AR"),
         (
@@ -93,15 +100,21 @@ fn nearly_right_marks(samples: &mut Samples) {
     }
 }
 
+const ALL: [&str; 5] = ["LM", "DS", "CD", "KI", "AR"];
+
 /// 23: a record at a wrong place.
 fn wrong_orders(samples: &mut Samples) {
-    let places: [(&str, &str, &[&str]); 6] = [
-        ("first", "", &["CD", "KI", "AR"]),
+    let places: [(&str, &str, &[&str]); 10] = [
+        ("first", "", &["DS", "CD", "KI", "AR"]),
         ("after_lm", "LM", &["LM", "KI", "AR"]),
-        ("after_cd", "LM; CD", &["LM", "CD"]),
-        ("after_ki", "LM; CD; KI", &["LM", "CD"]),
-        ("after_ar", "LM; CD; KI; AR", &["LM", "CD", "KI", "AR"]),
-        ("after_cd_ar", "LM; CD; AR", &["LM", "CD", "KI", "AR"]),
+        ("after_ds", "LM; DS", &["LM", "DS", "KI", "AR"]),
+        ("after_cd", "LM; CD", &["LM", "DS", "CD"]),
+        ("after_ds_cd", "LM; DS; CD", &["LM", "DS", "CD"]),
+        ("after_ki", "LM; CD; KI", &["LM", "DS", "CD"]),
+        ("after_ds_ki", "LM; DS; CD; KI", &["LM", "DS", "CD"]),
+        ("after_ar", "LM; CD; KI; AR", &ALL),
+        ("after_cd_ar", "LM; CD; AR", &ALL),
+        ("after_ds_cd_ar", "LM; DS; CD; AR", &ALL),
     ];
     for (place, beginning, marks) in places {
         for mark in marks {
@@ -135,12 +148,24 @@ fn missing_records(samples: &mut Samples) {
         ("without_LM", "CD; KI; AR"),
         ("without_CD", "LM; KI; AR"),
         ("without_AR", "LM; CD; KI"),
+        ("without_LM_with_DS", "DS; CD; KI; AR"),
+        ("without_CD_with_DS", "LM; DS; KI; AR"),
+        ("DS_before_LM", "DS; LM; CD; AR"),
+        ("DS_before_AR", "LM; CD; DS; AR"),
+        ("DS_between_KI", "LM; CD; KI; DS; int 2; AR"),
+        ("DS_last", "LM; CD; AR; DS"),
+        ("DS_twice", "LM; DS; DS; CD; AR"),
+        ("DS_twice_and_other", "LM; DS; descriptor ()V; CD; AR"),
+        ("DS_before_and_after_CD", "LM; DS; CD; DS; AR"),
         ("only_AR", "arguments"),
         ("AR_between_KI", "LM; CD; KI; AR; int 2"),
         ("AR_twice_without_arguments", "LM; CD; arguments; arguments"),
         ("ends_at_once", ""),
         ("ends_after_LM", "LM"),
+        ("ends_after_DS", "LM; DS"),
         ("ends_after_CD", "LM; CD"),
+        ("ends_after_DS_and_CD", "LM; DS; CD"),
+        ("ends_after_DS_and_KI", "LM; DS; CD; KI"),
         ("ends_after_KI", "LM; CD; KI"),
         ("ends_after_two_KI", "LM; CD; KI; double 7"),
     ] {
@@ -159,6 +184,7 @@ fn wrong_lengths(samples: &mut Samples) {
     }
     samples.add("CD_of_0", 24, "LM; code; KI; AR");
     samples.add("CD_of_0_then_AR", 24, "LM; code; AR");
+    samples.add("CD_of_0_after_DS", 24, "LM; DS; code; AR");
     for length in [0, 1, 2, 3, 4, 5, 6, 8, 9, 10, 12, 15, 263] {
         let digits = format!("000103{}", "00".repeat(length));
         let record = format!("record KI {}", &digits[..2 * length]);
@@ -176,6 +202,10 @@ fn wrong_lengths(samples: &mut Samples) {
             &format!("LM; CD; KI; {record}; AR"),
         );
     }
+}
+
+/// 24 of `AR`, after a constant, after the code, and with a descriptor.
+fn wrong_argument_lengths(samples: &mut Samples) {
     for length in [1, 2, 3, 5, 6, 7, 9, 10, 11, 257] {
         samples.add(
             format!("AR_of_{length}"),
@@ -186,6 +216,11 @@ fn wrong_lengths(samples: &mut Samples) {
             format!("AR_of_{length}_without_KI"),
             24,
             &format!("LM; CD; empty AR {length}"),
+        );
+        samples.add(
+            format!("AR_of_{length}_with_DS"),
+            24,
+            &format!("LM; DS; CD; empty AR {length}"),
         );
     }
 }
@@ -272,7 +307,7 @@ fn last_indices(samples: &mut Samples) {
 
 /// Bytes after a good sheet are a record like any other.
 pub fn bytes_after(samples: &mut Samples) {
-    for good in ["printed", "rich"] {
+    for good in ["printed", "rich", "typed"] {
         for (length, gives) in [(1, 21), (2, 21), (3, 21), (4, 22), (5, 22), (8, 22)] {
             samples.add(
                 format!("{good}_and_{length}_zeros"),
@@ -290,6 +325,8 @@ pub fn bytes_after(samples: &mut Samples) {
             ("and_AR_of_many", 23, &many),
             ("and_KI", 23, "int 10"),
             ("and_wrong_KI", 23, "int 0"),
+            ("and_DS", 23, "DS"),
+            ("and_bad_DS", 23, "descriptor V"),
             ("and_CD", 23, "CD"),
             ("and_empty_CD", 23, "code"),
             ("and_LM", 23, "LM"),
