@@ -154,7 +154,9 @@ fn a_load_gives_the_return_type_and_where_the_code_lies() {
 fn a_bad_descriptor_is_refused() {
     for descriptor in bad_descriptors() {
         let what = String::from_utf8_lossy(&descriptor);
-        refuses(&taking(&descriptor, 0), 31, &what);
+        // An empty CD after it, which is 24, so that 31 cannot be the arguments'.
+        let sheet = [sizes(2, 256), record(b"DS", &descriptor), b"CD\0\0".to_vec()];
+        refuses(&sheet.concat(), 31, &what);
     }
 }
 
