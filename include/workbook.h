@@ -83,9 +83,9 @@ enum workbook_number {
     WORKBOOK_REFUSED_LOG_FULL = 12, /* forward: ten words of log left */
     WORKBOOK_REFUSED_START = 13,    /* back: count above 0 */
     WORKBOOK_REFUSED_ENTRY = 14,    /* back: an entry that stands in the log and is sound */
-    /* Of the six return instructions, after 10: IRETURN for the return types Z,
-       B, C, S and I, LRETURN for J, FRETURN for F, DRETURN for D, ARETURN for L
-       and RETURN for V. Where the return type is 0 it is not asked. */
+    /* A return instruction, asked after 10: IRETURN for the return types Z, B, C,
+       S and I, LRETURN for J, FRETURN for F, DRETURN for D, ARETURN for L, RETURN
+       for V. Where the return type counts as 0 it is not asked. */
     WORKBOOK_REFUSED_RETURN_TYPE = 32,
 
     /* A sheet: */

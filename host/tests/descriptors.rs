@@ -103,8 +103,8 @@ fn bad_descriptors() -> Vec<Vec<u8>> {
         b"|(|()|V|)V|(V|(I|(V)V|()VV|()I | ()V|()[|()[V|([)V|([V)V|()b|()A|(A)V|(()V|())V|\
         ()L|()L;|()Lab|()L/a;|()La/;|()La//b;|()La.b;|()La[b;|()La;;|(La)V|()[L;";
     let grammar = grammar.split(|byte| *byte == b'|').map(<[u8]>::to_vec);
-    // A byte 0; no first byte; too few bytes, and too many; longer than 7F and 7FF need; four bytes.
-    let names: [&[u8]; 13] = [
+    // A byte 0; no first byte; too few bytes, and too many; longer than 7F and 7FF need; from F0 on.
+    let names: [&[u8]; 15] = [
         b"\x00",
         b"\x80",
         b"\xFF",
@@ -117,6 +117,8 @@ fn bad_descriptors() -> Vec<Vec<u8>> {
         b"\xC0\x81",
         b"\xC1\xBF",
         b"\xE0\x9F\xBF",
+        b"\xF0\xA0\x80",
+        b"\xF1\x80\x80",
         b"\xF0\x90\x80\x80",
     ];
     let names = names.map(|name| [b"()L", name, b";"].concat());
@@ -155,7 +157,11 @@ fn a_bad_descriptor_is_refused() {
     for descriptor in bad_descriptors() {
         let what = String::from_utf8_lossy(&descriptor);
         // An empty CD after it, which is 24, so that 31 cannot be the arguments'.
-        let sheet = [sizes(2, 256), record(b"DS", &descriptor), b"CD\0\0".to_vec()];
+        let sheet = [
+            sizes(2, 256),
+            record(b"DS", &descriptor),
+            b"CD\0\0".to_vec(),
+        ];
         refuses(&sheet.concat(), 31, &what);
     }
 }
