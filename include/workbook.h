@@ -15,7 +15,7 @@
  *   words      and one word an index, as many as kinds
  *   slots    locals, then operand stack
  *   log      ten words an entry
- *   state    six words
+ *   state    seven words
  *   answer   four words
  *   presses  one byte a press
  *   answers  three words a press
@@ -31,24 +31,30 @@ extern "C" {
 #endif
 
 /* The version that this header describes: what workbook_version gives. */
-#define WORKBOOK_VERSION 0
+#define WORKBOOK_VERSION 1
 
-/* Words that must be lent. State words past the sixth and answer words past
+/* Words that must be lent. State words past the seventh and answer words past
    the fourth are never written. */
-#define WORKBOOK_STATE_WORDS 6
+#define WORKBOOK_STATE_WORDS 7
 #define WORKBOOK_ANSWER_WORDS 4
 /* Words of a log entry, and of a press's answer in answers. */
 #define WORKBOOK_LOG_WORDS 10
 #define WORKBOOK_PRESS_WORDS 3
 
-/* The words of a state. */
+/*
+ * The words of a state. The return type is the first character of the return
+ * descriptor in the sheet's DS, as an ASCII number: one of B C D F I J L S V Z,
+ * L for [ too; 0 without DS. Any other number counts as 0. An accepted load
+ * gives it, and every step, press and run keeps the word as it stands.
+ */
 enum workbook_state_word {
     WORKBOOK_MAX_STACK = 0,
     WORKBOOK_MAX_LOCALS = 1,
     WORKBOOK_PC = 2,
     WORKBOOK_DEPTH = 3,
     WORKBOOK_COUNT_LOW = 4,
-    WORKBOOK_COUNT_HIGH = 5
+    WORKBOOK_COUNT_HIGH = 5,
+    WORKBOOK_RETURN_TYPE = 6
 };
 
 /* The bytes of a list of presses: 0 is back, any other byte is forward. */
@@ -77,6 +83,10 @@ enum workbook_number {
     WORKBOOK_REFUSED_LOG_FULL = 12, /* forward: ten words of log left */
     WORKBOOK_REFUSED_START = 13,    /* back: count above 0 */
     WORKBOOK_REFUSED_ENTRY = 14,    /* back: an entry that stands in the log and is sound */
+    /* A return instruction, asked after 10: IRETURN for the return types Z, B, C,
+       S and I, LRETURN for J, FRETURN for F, DRETURN for D, ARETURN for L, RETURN
+       for V. Where the return type counts as 0 it is not asked. */
+    WORKBOOK_REFUSED_RETURN_TYPE = 32,
 
     /* A sheet: */
     WORKBOOK_SHEET_CUT = 21,       /* four bytes and the body present */
@@ -86,10 +96,15 @@ enum workbook_number {
     WORKBOOK_SHEET_CONSTANT = 25,  /* KI: tag and index */
     WORKBOOK_SHEET_MEMORY = 26,    /* slots, kinds and words reach; state and answer words */
     WORKBOOK_SHEET_ARGUMENTS = 27, /* arguments at most max_locals */
+    /* DS, after 24: a method descriptor of JVMS 4.3.3, in modified UTF-8. AR of
+       a sheet with DS, after 27: as many words as its parameters take, two for
+       a long or a double. */
+    WORKBOOK_SHEET_DESCRIPTOR = 31,
 
     /* The method returns. Answer word 0 is the value, word 1 is 0; of a long
        and a double word 0 is the low word, word 1 the high word; of void both
-       are 0. */
+       are 0. An int is narrowed where the return type says so: Z keeps bit 0,
+       B and S are extended by sign, C by zeros. */
     WORKBOOK_RETURN_INT = 101,
     WORKBOOK_RETURN_FLOAT = 102,
     WORKBOOK_RETURN_REF = 103,
@@ -104,17 +119,18 @@ enum workbook_number {
 /*
  * The number of the last request that has landed (docs/changes), 0 before the
  * first. A host compares it with WORKBOOK_VERSION before its first call: parts,
- * words and numbers are those of one version.
+ * words and numbers are those of one version. Version 1 has the return type:
+ * the record DS, the seventh state word, and the numbers 31 and 32.
  */
 uint32_t workbook_version(void);
 
 /*
  * Loads a sheet. Accepted: 0; kinds and words are written over their length,
- * the first max_locals + max_stack slots, the six state words, and answer words
- * 0 and 1: the offset of the code's first byte in the sheet, and its length.
- * Answer words 2 and 3 stay. Refused: 21 to 27, and nothing at all is written.
- * Too few state or answer words belong to 26: the sheet's own numbers come
- * first.
+ * the first max_locals + max_stack slots, the seven state words, and answer
+ * words 0 and 1: the offset of the code's first byte in the sheet, and its
+ * length. Answer words 2 and 3 stay. Refused: 21 to 27 or 31, and nothing at all
+ * is written. Too few state or answer words belong to 26: the sheet's own
+ * numbers come first.
  */
 uint32_t workbook_load(
     const uint8_t *sheet, size_t sheet_len,
@@ -125,7 +141,7 @@ uint32_t workbook_load(
     uint32_t *answer, size_t answer_len);
 
 /*
- * In the functions below fewer than six state words or four answer words are
+ * In the functions below fewer than seven state words or four answer words are
  * refused with 1, before everything else, and nothing is written. A state with
  * a max_stack or max_locals word above 65,535 is refused by question 1.
  */
@@ -190,7 +206,7 @@ uint32_t workbook_run(
  * answers from 3 * i on: the number, then the value's low and high word (0
  * where there is none). A refused press is that press's own answer, and the
  * list goes on: 0 comes back. Fewer than three words of answers for each press,
- * or fewer than six state words: 1, and nothing is written. Words of answers
+ * or fewer than seven state words: 1, and nothing is written. Words of answers
  * past the last press stay.
  */
 uint32_t workbook_presses(

@@ -82,7 +82,7 @@ static void expect(int line, uint32_t got, uint32_t wanted) {
 
 #define EXPECT(got, wanted) expect(__LINE__, (got), (wanted))
 
-/* State and answer words that are lent past the sixth and the fourth. They are guard words. */
+/* State and answer words that are lent past the seventh and the fourth. They are guard words. */
 static size_t extra;
 
 /* All memory filled with A5, then some bytes as sheet and as code. */
@@ -158,10 +158,12 @@ static const uint8_t full[] = {
     'K', 'I', 0, 11, 0, 2, 5, 0x21, 0x22, 0x23, 0x24, 0x25, 0x26, 0x27, 0x28,
     'A', 'R', 0, 8, 0x31, 0x32, 0x33, 0x34, 0x41, 0x42, 0x43, 0x44};
 
-/* A load that is to be accepted, with its code of four bytes at 12. The caller has said what it wants of slots and pool. */
-static void load_it(void) {
-    want_answer(12, 4);
-    EXPECT(load(), WORKBOOK_OK);
+/* A load that is to be accepted, with its code of some bytes at an offset. The caller has said what it wants of slots, pool
+   and the rest of the state. */
+static void load_it(int line, uint32_t return_type, uint32_t offset, uint32_t size) {
+    WANT(state)[WORKBOOK_RETURN_TYPE] = return_type;
+    want_answer(offset, size);
+    expect(line, load(), WORKBOOK_OK);
     lent.code.at = lent.sheet.at + HAVE(answer)[0];
     lent.code.len = HAVE(answer)[1];
 }
@@ -172,7 +174,7 @@ static void load_printed(void) {
     memset(WANT(words), 0, POOL * sizeof(uint32_t));
     memset(WANT(slots), 0, 2 * sizeof(uint32_t));
     want_state(2, 0, 0, 0, 0);
-    load_it();
+    load_it(__LINE__, 0, 12, 4);
 }
 
 static void load_full(void) {
@@ -188,10 +190,11 @@ static void load_full(void) {
     WANT(slots)[0] = 0x31323334;
     WANT(slots)[1] = 0x41424344;
     want_state(4, 3, 0, 0, 0);
-    load_it();
+    load_it(__LINE__, 0, 12, 4);
 }
 
-/* A method that no sheet was loaded for, at its start, with different words in all slots. */
+/* A method that no sheet was loaded for, at its start, with different words in all slots. Its return type stays A5A5A5A5,
+   which is no letter: it counts as 0, and every call is to leave it. */
 static void lend_code(const uint8_t *code, size_t size, uint32_t max_stack, uint32_t max_locals) {
     uint32_t i;
     lend(code, size);
@@ -384,6 +387,7 @@ static void check_boundary(void) {
         {WORKBOOK_REFUSED_DEPTH, WORKBOOK_DEPTH, 65536},
         {WORKBOOK_REFUSED_DEPTH, WORKBOOK_DEPTH, 0xFFFFFFFF},
     };
+    const size_t few = 2 * WORKBOOK_STATE_WORDS;
     size_t i;
 
     for (i = 0; i < COUNT_OF(states); i++) {
@@ -402,17 +406,17 @@ static void check_boundary(void) {
     lent.code.len = 0;
     refused(__LINE__, WORKBOOK_REFUSED_PC);
 
-    /* Fewer than six state words or four answer words: 1, and nothing is written, also where question 2 says no. */
-    for (i = 0; i < 20; i++) {
+    /* Fewer than seven state words or four answer words: 1, and nothing is written, also where question 2 says no. */
+    for (i = 0; i < few + 2 * WORKBOOK_ANSWER_WORDS; i++) {
         load_printed();
         if (i % 2) put(HAVE(state), WORKBOOK_PC, 4);
-        lent.state.len = i < 12 ? i / 2 : WORKBOOK_STATE_WORDS;
-        lent.answer.len = i < 12 ? WORKBOOK_ANSWER_WORDS : (i - 12) / 2;
+        lent.state.len = i < few ? i / 2 : WORKBOOK_STATE_WORDS;
+        lent.answer.len = i < few ? WORKBOOK_ANSWER_WORDS : (i - few) / 2;
         lent.presses.len = i % 2;
         EXPECT(step(), WORKBOOK_REFUSED_LENT);
         EXPECT(forward(), WORKBOOK_REFUSED_LENT);
         EXPECT(run(9), WORKBOOK_REFUSED_LENT);
-        if (i < 12) {
+        if (i < few) {
             EXPECT(back(), WORKBOOK_REFUSED_LENT);
             EXPECT(presses(), WORKBOOK_REFUSED_LENT);
         }
@@ -474,7 +478,7 @@ static void check_limits(void) {
     lent.kinds.len = lent.words.len = 65536;
     memset(WANT(slots), 0, 2 * sizeof(uint32_t));
     want_state(2, 0, 0, 0, 0);
-    load_it();
+    load_it(__LINE__, 0, 12, 4);
     for (i = 0; i < 65536 && kinds[i] == 0 && words[i] == 0; i++) {
     }
     check(i == 65536, __LINE__, "pool cleared", (unsigned long)i, 65536);
@@ -674,6 +678,199 @@ static void check_presses(void) {
     EXPECT(presses(), WORKBOOK_REFUSED_LENT);
 }
 
+static size_t append(uint8_t *bytes, size_t size, const void *part, size_t part_size) {
+    memcpy(bytes + size, part, part_size);
+    return size + part_size;
+}
+
+/* A sheet of two stack places and one local: a descriptor (none where it is NULL), LDC 1, IRETURN, an int at index 1, and
+   argument words of 0. */
+static void lend_descriptor(const char *descriptor, uint32_t value, size_t arguments) {
+    static const uint8_t limits[] = {'L', 'M', 0, 4, 0, 2, 0, 1}, code[] = {'C', 'D', 0, 3, 0x12, 1, 0xAC};
+    const uint8_t constant[] = {'K', 'I', 0, 7, 0, 1, 3, (uint8_t)(value >> 24), (uint8_t)(value >> 16),
+                                (uint8_t)(value >> 8), (uint8_t)value};
+    const uint8_t described[] = {'D', 'S', 0, descriptor ? (uint8_t)strlen(descriptor) : 0};
+    const uint8_t last[] = {'A', 'R', 0, (uint8_t)(4 * arguments), 0, 0, 0, 0, 0, 0, 0, 0};
+    uint8_t bytes[SHEET];
+    size_t size = 0;
+
+    size = append(bytes, size, limits, sizeof limits);
+    if (descriptor) {
+        size = append(bytes, size, described, sizeof described);
+        size = append(bytes, size, descriptor, strlen(descriptor));
+    }
+    size = append(bytes, size, code, sizeof code);
+    size = append(bytes, size, constant, sizeof constant);
+    size = append(bytes, size, last, 4 + 4 * arguments);
+    lend(bytes, size);
+}
+
+/* That sheet, loaded. */
+static void load_descriptor(const char *descriptor, uint32_t value, size_t arguments, uint32_t return_type) {
+    lend_descriptor(descriptor, value, arguments);
+    memset(WANT(kinds), 0, POOL);
+    memset(WANT(words), 0, POOL * sizeof(uint32_t));
+    memset(WANT(slots), 0, 3 * sizeof(uint32_t));
+    WANT(kinds)[1] = 3;
+    WANT(words)[1] = value;
+    want_state(2, 1, 0, 0, 0);
+    load_it(__LINE__, return_type, descriptor ? 12 + 4 + (uint32_t)strlen(descriptor) : 12, 3);
+}
+
+/* DS: good ones, bad ones, its place, and the order of the questions. */
+static void check_descriptors(void) {
+    static const struct {
+        uint32_t number;
+        const char *descriptor;
+        size_t arguments;
+    } refused_sheets[] = {
+        {WORKBOOK_SHEET_DESCRIPTOR, "", 0},
+        {WORKBOOK_SHEET_DESCRIPTOR, "()", 0},
+        {WORKBOOK_SHEET_DESCRIPTOR, "()VV", 0},
+        {WORKBOOK_SHEET_DESCRIPTOR, "()[V", 0},
+        {WORKBOOK_SHEET_DESCRIPTOR, "()La.b;", 0},
+        {WORKBOOK_SHEET_DESCRIPTOR, "()L\xC1\xBF;", 0},
+        /* Good ones with a wrong number of words. */
+        {WORKBOOK_SHEET_DESCRIPTOR, "()V", 1},
+        {WORKBOOK_SHEET_DESCRIPTOR, "(I)V", 0},
+        {WORKBOOK_SHEET_DESCRIPTOR, "(J)V", 1},
+        /* Two words are too many for one local, before they are too many or right for the descriptor. */
+        {WORKBOOK_SHEET_ARGUMENTS, "()V", 2},
+        {WORKBOOK_SHEET_ARGUMENTS, "(J)V", 2},
+        /* A bad descriptor comes before the words. */
+        {WORKBOOK_SHEET_DESCRIPTOR, "(V)V", 2},
+    };
+    static const struct {
+        uint32_t number;
+        size_t size;
+        uint8_t bytes[32];
+    } records[] = {
+        {WORKBOOK_SHEET_ORDER, 15, {'D', 'S', 0, 3, '(', ')', 'V', 'L', 'M', 0, 4, 0, 2, 0, 1}},
+        {WORKBOOK_SHEET_ORDER, 24, {'L', 'M', 0, 4, 0, 2, 0, 1, 'C', 'D', 0, 1, 0xB1, 'D', 'S', 0, 3, '(', ')', 'V',
+                                    'A', 'R', 0, 0}},
+        {WORKBOOK_SHEET_ORDER, 31, {'L', 'M', 0, 4, 0, 2, 0, 1, 'D', 'S', 0, 3, '(', ')', 'V', 'D', 'S', 0, 3, '(', ')', 'V',
+                                    'C', 'D', 0, 1, 0xB1, 'A', 'R', 0, 0}},
+        /* Three bytes of arguments where none are taken: 24 before 31. */
+        {WORKBOOK_SHEET_LENGTH, 27, {'L', 'M', 0, 4, 0, 2, 0, 1, 'D', 'S', 0, 3, '(', ')', 'V', 'C', 'D', 0, 1, 0xB1,
+                                     'A', 'R', 0, 3, 0, 0, 0}},
+    };
+    size_t i;
+
+    load_descriptor("()B", 128, 0, 'B');
+    load_descriptor("(Z)[J", 128, 1, 'L');
+    load_descriptor("([[La/b;)La/b;", 128, 1, 'L');
+    load_descriptor(NULL, 128, 1, 0);
+    for (i = 0; i < COUNT_OF(refused_sheets); i++) {
+        lend_descriptor(refused_sheets[i].descriptor, 128, refused_sheets[i].arguments);
+        EXPECT(load(), refused_sheets[i].number);
+        lent.state.len = WORKBOOK_STATE_WORDS - 1;
+        EXPECT(load(), refused_sheets[i].number);
+    }
+    for (i = 0; i < COUNT_OF(records); i++) {
+        lend(records[i].bytes, records[i].size);
+        EXPECT(load(), records[i].number);
+    }
+}
+
+/* What is loaded pushes an int and returns it, by forward, step, back, a list and a run. Each is to give the number, and
+   the int that is returned where it is no refusal. */
+static void walk_int(uint32_t value, uint32_t number, uint32_t returned) {
+    static const uint8_t list[] = {WORKBOOK_PRESS_FORWARD, WORKBOOK_PRESS_FORWARD, WORKBOOK_PRESS_BACK};
+    static const uint32_t entry[WORKBOOK_LOG_WORDS] = {0, 0, 1, 1};
+
+    memcpy(WANT(log), entry, sizeof entry);
+    WANT(slots)[1] = value;
+    want_state(2, 1, 2, 1, 1);
+    EXPECT(forward(), WORKBOOK_OK);
+    if (number == WORKBOOK_RETURN_INT) want_answer(returned, 0);
+    EXPECT(forward(), number);
+    EXPECT(step(), number);
+    WANT(slots)[1] = 0;
+    want_state(2, 1, 0, 0, 0);
+    EXPECT(back(), WORKBOOK_OK);
+    put_presses(list, sizeof list);
+    want_press(0, WORKBOOK_OK, 0, 0);
+    want_press(1, number, returned, 0);
+    want_press(2, WORKBOOK_OK, 0, 0);
+    EXPECT(presses(), WORKBOOK_OK);
+    WANT(slots)[1] = value;
+    want_state(2, 1, 2, 1, 0);
+    want_ran(returned, 0, 1);
+    EXPECT(run(9), number);
+}
+
+/* An int is narrowed to the return type; a word that is no letter is kept and asks nothing. */
+static void check_narrowing(void) {
+    static const struct {
+        const char *descriptor;
+        uint32_t return_type, value, number, returned;
+    } ints[] = {
+        {"()B", 'B', 128, WORKBOOK_RETURN_INT, 0xFFFFFF80},
+        {"()B", 'B', 0x17F, WORKBOOK_RETURN_INT, 0x7F},
+        {"()Z", 'Z', 2, WORKBOOK_RETURN_INT, 0},
+        {"()Z", 'Z', 0xFFFFFFFF, WORKBOOK_RETURN_INT, 1},
+        {"()C", 'C', 0xFFFFFFFF, WORKBOOK_RETURN_INT, 0xFFFF},
+        {"()S", 'S', 32768, WORKBOOK_RETURN_INT, 0xFFFF8000},
+        {"()I", 'I', 128, WORKBOOK_RETURN_INT, 128},
+        {NULL, 0, 128, WORKBOOK_RETURN_INT, 128},
+        {"()V", 'V', 128, WORKBOOK_REFUSED_RETURN_TYPE, 0},
+        {"()J", 'J', 128, WORKBOOK_REFUSED_RETURN_TYPE, 0},
+        {"()[I", 'L', 128, WORKBOOK_REFUSED_RETURN_TYPE, 0},
+    };
+    static const uint32_t no_letters[] = {0x142, 0x62, 0x56000000, 0xFFFFFFFF};
+    size_t i;
+
+    for (i = 0; i < COUNT_OF(ints); i++) {
+        load_descriptor(ints[i].descriptor, ints[i].value, 0, ints[i].return_type);
+        walk_int(ints[i].value, ints[i].number, ints[i].returned);
+    }
+    for (i = 0; i < COUNT_OF(no_letters); i++) {
+        load_descriptor("()V", 128, 0, 'V');
+        put(HAVE(state), WORKBOOK_RETURN_TYPE, no_letters[i]);
+        walk_int(128, WORKBOOK_RETURN_INT, 128);
+    }
+}
+
+/* Each return instruction on two stack places, 102 and 103, with each return type. */
+static void check_return_types(void) {
+    static const struct {
+        uint32_t number, low, high;
+        uint8_t opcode;
+        const char *suits;
+    } returns[] = {
+        {WORKBOOK_RETURN_INT, 103, 0, 0xAC, "BCISZ"},  {WORKBOOK_RETURN_LONG, 102, 103, 0xAD, "J"},
+        {WORKBOOK_RETURN_FLOAT, 103, 0, 0xAE, "F"},    {WORKBOOK_RETURN_DOUBLE, 102, 103, 0xAF, "D"},
+        {WORKBOOK_RETURN_REF, 103, 0, 0xB0, "L"},      {WORKBOOK_RETURN_VOID, 0, 0, 0xB1, "V"},
+    };
+    static const char letters[] = "BCDFIJLSVZ";
+    static const uint8_t list[] = {WORKBOOK_PRESS_FORWARD};
+    size_t i, j;
+
+    for (i = 0; i < COUNT_OF(returns); i++) {
+        for (j = 0; letters[j]; j++) {
+            const int suits = strchr(returns[i].suits, letters[j]) != NULL;
+            const uint32_t number = suits ? returns[i].number : (uint32_t)WORKBOOK_REFUSED_RETURN_TYPE;
+            const uint32_t low = !suits ? 0 : letters[j] == 'Z' ? 1 : returns[i].low, high = suits ? returns[i].high : 0;
+
+            lend_code(&returns[i].opcode, 1, 2, 2);
+            put(HAVE(state), WORKBOOK_DEPTH, 2);
+            put(HAVE(state), WORKBOOK_RETURN_TYPE, (uint32_t)letters[j]);
+            if (suits) want_answer(low, high);
+            EXPECT(step(), number);
+            EXPECT(forward(), number);
+            put_presses(list, sizeof list);
+            want_press(0, number, low, high);
+            EXPECT(presses(), WORKBOOK_OK);
+            want_ran(low, high, 0);
+            EXPECT(run(9), number);
+        }
+    }
+    /* What is popped is asked first. */
+    lend_code(&returns[0].opcode, 1, 2, 2);
+    put(HAVE(state), WORKBOOK_RETURN_TYPE, 'V');
+    EXPECT(step(), WORKBOOK_REFUSED_POP);
+}
+
 int main(void) {
     EXPECT(workbook_version(), WORKBOOK_VERSION);
     for (extra = 0; extra <= 2; extra += 2) {
@@ -686,6 +883,9 @@ int main(void) {
         check_unsound();
         check_run();
         check_presses();
+        check_descriptors();
+        check_narrowing();
+        check_return_types();
     }
     printf("%d checks, %d failed\n", checks, failed);
     return failed != 0;

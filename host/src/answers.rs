@@ -16,7 +16,7 @@ use std::fmt;
 /// ```
 #[derive(Clone, Copy, Debug, PartialEq, Eq, Hash)]
 pub enum Value {
-    /// An int.
+    /// An int; narrowed where the sheet's descriptor says boolean, byte, char or short.
     Int(i32),
     /// A float's bits; [`Value::as_f64`] gives its number.
     Float(u32),

@@ -2,21 +2,26 @@
 //! types and types become words.
 
 use crate::answers::{answer, end, joined, refusal};
-use crate::{ffi, version, Answer, Ran, Refusal};
+use crate::{ffi, version, Answer, Ran, Refusal, ReturnType};
 use std::ops::Range;
 
 /// Words of a log entry, which one step takes.
 pub const LOG_WORDS: usize = 10;
 
+/// Words of a state.
+const STATE_WORDS: usize = 7;
+
 /// Where a walk stands, apart from its slots.
 ///
 /// ```
-/// use workbook_host::{State, Walk};
+/// use workbook_host::{ReturnType, State, Walk};
 ///
 /// // max_stack 2, max_locals 1; ICONST_3, ISTORE_0, RETURN.
 /// let sheet = b"LM\x00\x04\x00\x02\x00\x01CD\x00\x03\x06\x3B\xB1AR\x00\x00";
 /// let state = Walk::open(sheet.to_vec())?.state();
-/// assert_eq!(state, State { max_stack: 2, max_locals: 1, pc: 0, depth: 0, count: 0 });
+/// let return_type = ReturnType::NONE;
+/// let start = State { max_stack: 2, max_locals: 1, pc: 0, depth: 0, count: 0, return_type };
+/// assert_eq!(state, start);
 /// assert_eq!(state.frame(), 3);
 /// # Ok::<(), workbook_host::Refusal>(())
 /// ```
@@ -32,6 +37,8 @@ pub struct State {
     pub depth: u32,
     /// How many entries of the log are in use.
     pub count: u64,
+    /// What the sheet's descriptor says that the method returns. No step changes it.
+    pub return_type: ReturnType,
 }
 
 impl State {
@@ -41,7 +48,7 @@ impl State {
         usize::from(self.max_locals) + usize::from(self.max_stack)
     }
 
-    fn to_words(self) -> [u32; 6] {
+    fn to_words(self) -> [u32; STATE_WORDS] {
         let (low, high) = (self.count as u32, (self.count >> 32) as u32);
         [
             self.max_stack.into(),
@@ -50,11 +57,12 @@ impl State {
             self.depth,
             low,
             high,
+            self.return_type.word(),
         ]
     }
 
-    fn from_words(words: [u32; 6]) -> State {
-        let [max_stack, max_locals, pc, depth, low, high] = words;
+    fn from_words(words: [u32; STATE_WORDS]) -> State {
+        let [max_stack, max_locals, pc, depth, low, high, return_type] = words;
         let size = |word| u16::try_from(word).expect("the library gives sizes of 16 bits");
         State {
             max_stack: size(max_stack),
@@ -62,6 +70,7 @@ impl State {
             pc,
             depth,
             count: joined(low, high),
+            return_type: ReturnType::from_word(return_type),
         }
     }
 
@@ -151,7 +160,7 @@ pub enum Press {
 ///
 /// # Errors
 ///
-/// The refusal, from 21 to 27. A refused load writes nothing.
+/// The refusal, from 21 to 27 or 31. A refused load writes nothing.
 pub fn load(
     sheet: &[u8],
     slots: &mut [u32],
@@ -159,7 +168,7 @@ pub fn load(
     words: &mut [u32],
 ) -> Result<Loaded, Refusal> {
     version::check();
-    let (mut state, mut place) = ([0; 6], [0; 4]);
+    let (mut state, mut place) = ([0; STATE_WORDS], [0; 4]);
     match ffi::load(sheet, slots, kinds, words, &mut state, &mut place) {
         0 => {
             let (start, length) = (place[0] as usize, place[1] as usize);
@@ -249,15 +258,16 @@ mod tests {
     use super::*;
 
     #[test]
-    fn a_state_is_six_words_low_word_first() {
+    fn a_state_is_seven_words_low_word_first() {
         let state = State {
             max_stack: 65_535,
             max_locals: 2,
             pc: 3,
             depth: 0xFFFF_FFFF,
             count: 0x0000_0005_8000_0004,
+            return_type: ReturnType::from_word(0x142),
         };
-        let words = [65_535, 2, 3, 0xFFFF_FFFF, 0x8000_0004, 5];
+        let words = [65_535, 2, 3, 0xFFFF_FFFF, 0x8000_0004, 5, 0x142];
         assert_eq!(state.to_words(), words);
         assert_eq!(State::from_words(words), state);
         assert_eq!(state.frame(), 65_537);

@@ -37,6 +37,7 @@
 mod answers;
 mod calls;
 mod refusal;
+mod return_type;
 mod room;
 mod version;
 mod walk;
@@ -53,5 +54,6 @@ pub use answers::{Answer, End, Ran, Value};
 pub use calls::{back, forward, load, presses, run, step};
 pub use calls::{Loaded, Parts, Press, State, LOG_WORDS};
 pub use refusal::Refusal;
+pub use return_type::ReturnType;
 pub use version::VERSION;
 pub use walk::{Reached, Walk};

@@ -59,7 +59,7 @@ macro_rules! refusals {
     };
 }
 
-// A step, a press or a run; then a sheet.
+// A step, a press or a run; then a sheet; then what came with the return type, one of each.
 refusals! {
     LENT = 1: "The memory has too few slots for the method's locals and operand stack, \
                or its two parts for constants are not equally long or too long.";
@@ -81,8 +81,8 @@ refusals! {
     ENTRY = 14: "The log has no entry from which the last step can be taken back.";
 
     SHEET_CUT = 21: "The file ends in the middle of a record.";
-    SHEET_MARK = 22: "The file has a record whose mark is none of LM, CD, KI and AR.";
-    SHEET_ORDER = 23: "The file's records are not LM, CD, any number of KI and AR, \
+    SHEET_MARK = 22: "The file has a record whose mark is none of LM, DS, CD, KI and AR.";
+    SHEET_ORDER = 23: "The file's records are not LM, at most one DS, CD, any number of KI and AR, \
                        in this order, or one is missing.";
     SHEET_LENGTH = 24: "The file has a record of a wrong length: LM has 4 bytes, CD at least 1, \
                         KI 7 or 11, AR a multiple of 4.";
@@ -92,6 +92,15 @@ refusals! {
     SHEET_MEMORY = 26: "The lent memory is too small for the method in the file, \
                         or its two parts for constants are not equally long or too long.";
     SHEET_ARGUMENTS = 27: "The file has more argument words than max_locals.";
+
+    SHEET_DESCRIPTOR = 31: "The file's descriptor is not parameter types in parentheses \
+                            and then a return type, as (IJ)B is, \
+                            or there are more or fewer argument words than it takes, \
+                            two for a long or a double.";
+    RETURN_TYPE = 32: "The return instruction is of another kind than the method's return type: \
+                       IRETURN is for boolean, byte, char, short and int, LRETURN for long, \
+                       FRETURN for float, DRETURN for double, ARETURN for a reference, \
+                       RETURN for void.";
 }
 
 impl fmt::Display for Refusal {
@@ -113,7 +122,7 @@ mod tests {
 
     /// The numbers that the library gives.
     fn known() -> impl Iterator<Item = u32> {
-        (1..=14).chain(21..=27)
+        (1..=14).chain(21..=27).chain(31..=32)
     }
 
     #[test]
@@ -143,7 +152,7 @@ mod tests {
     fn each_refusal_has_its_own_sentence() {
         let unknown = refusal(99).sentence();
         let sentences: HashSet<_> = known().map(|number| refusal(number).sentence()).collect();
-        assert_eq!(sentences.len(), 21);
+        assert_eq!(sentences.len(), 23);
         assert!(!sentences.contains(unknown));
         for number in (1..=99).filter(|number| !known().any(|other| other == *number)) {
             assert_eq!(refusal(number).sentence(), unknown, "{number}");
@@ -187,7 +196,9 @@ mod tests {
             (24, "length"),
             (25, "tag"),
             (26, "lent memory"),
-            (27, "argument"),
+            (27, "than max_locals"),
+            (31, "parentheses"),
+            (32, "IRETURN"),
         ];
         assert!(table.iter().map(|row| row.0).eq(known()));
         for (number, word) in table {

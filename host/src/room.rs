@@ -49,6 +49,7 @@ mod tests {
     #[test]
     fn sizes_and_the_highest_index_are_counted() {
         let sizes = b"LM\x00\x04\x01\x02\x00\x03";
+        let descriptor = b"DS\x00\x03()V";
         let int = b"KI\x00\x07\x00\x05\x03\0\0\0\0";
         let long = b"KI\x00\x0B\x00\x09\x05\0\0\0\0\0\0\0\0";
         let room = |records: &[&[u8]]| {
@@ -58,6 +59,7 @@ mod tests {
         assert_eq!(room(&[]), (0, 0));
         assert_eq!(room(&[sizes]), (0x105, 0));
         assert_eq!(room(&[sizes, int]), (0x105, 6));
+        assert_eq!(room(&[sizes, descriptor, int]), (0x105, 6));
         assert_eq!(room(&[sizes, int, long]), (0x105, 11));
         // A record that is cut off counts for nothing.
         assert_eq!(room(&[sizes, int, &long[..14]]), (0x105, 6));

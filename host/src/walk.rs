@@ -1,7 +1,7 @@
 //! A walk that owns its memory, for programs.
 
 use crate::room::Room;
-use crate::{calls, Answer, Parts, Ran, Refusal, State, LOG_WORDS};
+use crate::{calls, Answer, Parts, Ran, Refusal, ReturnType, State, LOG_WORDS};
 use bytecode::mnemonics;
 use std::ops::Range;
 
@@ -92,7 +92,7 @@ impl Walk {
     ///
     /// # Errors
     ///
-    /// The refusal of the sheet, from 21 to 27 without 26: there is memory for every sheet.
+    /// The refusal of the sheet, from 21 to 27 or 31, but never 26: there is memory for every sheet.
     pub fn open(sheet: Vec<u8>) -> Result<Walk, Refusal> {
         Walk::open_logged(sheet, 0, true)
     }
@@ -214,6 +214,12 @@ impl Walk {
     #[must_use]
     pub fn count(&self) -> u64 {
         self.state.count
+    }
+
+    /// What the sheet's descriptor says that the method returns.
+    #[must_use]
+    pub fn return_type(&self) -> ReturnType {
+        self.state.return_type
     }
 
     /// The next instruction as text, for display only.

@@ -6,7 +6,7 @@
 mod common;
 
 use common::memory::{Lent, Memory};
-use common::{sheet, Lengths, ENOUGH};
+use common::{sheet, Lengths, ANSWER_WORDS, ENOUGH, STATE_WORDS};
 use workbook_host::records::{arguments, constant, record, sizes};
 
 /// ICONST_3, ICONST_4, IADD, IRETURN.
@@ -14,8 +14,9 @@ const ADDS: [u8; 4] = [0x06, 0x07, 0x60, 0xAC];
 
 /// Lengths of state and answer of which at least one is too short.
 fn too_short() -> impl Iterator<Item = (usize, usize)> {
-    let all = (0..=8).flat_map(|state| (0..=6).map(move |answer| (state, answer)));
-    all.filter(|&(state, answer)| state < 6 || answer < 4)
+    let states = 0..=ENOUGH.state;
+    let all = states.flat_map(|state| (0..=ENOUGH.answer).map(move |answer| (state, answer)));
+    all.filter(|&(state, answer)| state < STATE_WORDS || answer < ANSWER_WORDS)
 }
 
 /// A call that has to come back with a number and to write nothing at all.
@@ -98,20 +99,20 @@ fn an_accepted_load_writes_what_it_says() {
     expected.words.part_mut().fill(0);
     expected.words.part_mut()[1] = 0x0102_0304;
     expected.words.part_mut()[4..6].copy_from_slice(&[0x2122_2324, 0x1112_1314]);
-    expected.state.part_mut()[..6].copy_from_slice(&[2, 3, 0, 0, 0, 0]);
+    expected.state.part_mut()[..7].copy_from_slice(&[2, 3, 0, 0, 0, 0, 0]);
     expected.answer.part_mut()[..2].copy_from_slice(&[12, 4]);
     memory.assert_equals(&expected, &"load");
 }
 
 #[test]
-fn a_load_asks_for_six_state_words_and_four_answer_words() {
+fn a_load_asks_for_seven_state_words_and_four_answer_words() {
     for (state, answer) in too_short() {
         let mut memory = Memory::new(&good_sheet(), ENOUGH);
         memory.cut(state, answer);
         writes_nothing(&memory, Memory::load, 26, &format!("{state} and {answer}"));
     }
     let mut memory = Memory::new(&good_sheet(), ENOUGH);
-    memory.cut(6, 4);
+    memory.cut(STATE_WORDS, ANSWER_WORDS);
     assert_eq!(memory.load(), 0);
 }
 
@@ -125,7 +126,8 @@ fn a_bad_sheet_has_its_own_number_first() {
             log: 0,
             ..ENOUGH
         };
-        for (state, answer) in too_short().chain([(6, 4), (8, 6)]) {
+        let enough = [(STATE_WORDS, ANSWER_WORDS), (ENOUGH.state, ENOUGH.answer)];
+        for (state, answer) in too_short().chain(enough) {
             // Memory that would be refused too, with 26, and memory that is large enough.
             for lengths in [lengths, ENOUGH] {
                 let mut memory = Memory::new(&sheet, lengths);
@@ -213,9 +215,9 @@ fn back_asks_for_state_words_before_everything_else() {
     for (name, mut memory) in situations() {
         // One step that could be taken back where nothing else is wrong.
         memory.forward();
-        for state in 0..6 {
+        for state in 0..STATE_WORDS {
             let mut memory = memory.clone();
-            memory.cut(state, 4);
+            memory.cut(state, ANSWER_WORDS);
             writes_nothing(&memory, Memory::back, 1, &format!("{name} with {state}"));
         }
     }
@@ -226,9 +228,9 @@ fn presses_ask_for_state_words_and_answers() {
     for (name, memory) in situations() {
         for presses in [&[][..], &[1], &[1, 0, 1, 0]] {
             let enough = 3 * presses.len();
-            for state in 0..6 {
+            for state in 0..STATE_WORDS {
                 let mut memory = memory.clone();
-                memory.cut(state, 4);
+                memory.cut(state, ANSWER_WORDS);
                 memory.lend_presses(presses, enough);
                 writes_nothing(&memory, Memory::presses, 1, &format!("{name} with {state}"));
             }
@@ -244,7 +246,7 @@ fn presses_ask_for_state_words_and_answers() {
             }
             // Presses have no answer words but their own.
             let mut memory = memory.clone();
-            memory.cut(6, 0);
+            memory.cut(STATE_WORDS, 0);
             memory.lend_presses(presses, enough);
             assert_eq!(memory.presses(), 0, "{name}");
         }
@@ -352,7 +354,7 @@ fn ten_times_count_does_not_wrap() {
         writes_nothing(&memory, Memory::back, 14, &count);
         // A step without history does not look at the log.
         assert_eq!(memory.step(), 0);
-        assert_eq!(memory.state.part()[..6], [2, 0, 1, 1, 0, 0]);
+        assert_eq!(memory.state.part()[..7], [2, 0, 1, 1, 0, 0, 0]);
     }
 }
 
@@ -362,7 +364,7 @@ fn an_ordinary_step_writes_slots_and_state() {
     memory.state.part_mut()[4..6].copy_from_slice(&[5, 6]);
     let mut expected = memory.clone();
     expected.slots.part_mut()[1] = 4;
-    expected.state.part_mut()[..6].copy_from_slice(&[2, 0, 2, 2, 0, 0]);
+    expected.state.part_mut()[..7].copy_from_slice(&[2, 0, 2, 2, 0, 0, 0]);
     assert_eq!(memory.step(), 0);
     memory.assert_equals(&expected, &"step");
 }
@@ -373,7 +375,7 @@ fn a_granted_press_writes_slots_log_and_state() {
     memory.state.part_mut()[4] = 1;
     let mut after_forward = memory.clone();
     after_forward.slots.part_mut()[0] = 7;
-    after_forward.state.part_mut()[..6].copy_from_slice(&[2, 0, 3, 1, 2, 0]);
+    after_forward.state.part_mut()[..7].copy_from_slice(&[2, 0, 3, 1, 2, 0, 0]);
     // Pc, depth, first place, how many, and the old word.
     after_forward.log.part_mut()[10..20].copy_from_slice(&[2, 2, 0, 1, 3, 0, 0, 0, 0, 0]);
     let mut after_back = memory.clone();
@@ -620,7 +622,7 @@ fn presses_answer_in_three_words_each() {
     ];
     expected.answers.part_mut()[..24].copy_from_slice(answers.as_flattened());
     expected.slots.part_mut()[..2].copy_from_slice(&[7, 4]);
-    expected.state.part_mut()[..6].copy_from_slice(&[2, 0, 3, 1, 3, 0]);
+    expected.state.part_mut()[..7].copy_from_slice(&[2, 0, 3, 1, 3, 0, 0]);
     expected.log.part_mut()[..10].copy_from_slice(&[0, 0, 0, 1, 0, 0, 0, 0, 0, 0]);
     expected.log.part_mut()[10..20].copy_from_slice(&[1, 1, 1, 1, 0, 0, 0, 0, 0, 0]);
     expected.log.part_mut()[20..30].copy_from_slice(&[2, 2, 0, 1, 3, 0, 0, 0, 0, 0]);
@@ -656,8 +658,8 @@ fn empty_parts_are_met_by_answers() {
     writes_nothing(&memory, Memory::presses, 1, &"presses");
     // A method without locals, stack, constants and arguments needs no memory but for its state.
     let lengths = Lengths {
-        state: 6,
-        answer: 4,
+        state: STATE_WORDS,
+        answer: ANSWER_WORDS,
         ..nothing
     };
     let mut memory = Memory::loaded(&sheet(0, 0, &[0xB1], &[]), lengths);

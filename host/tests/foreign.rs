@@ -8,7 +8,7 @@ use common::memory::{Lent, Memory};
 use common::random::Random;
 use common::{accepted_samples, refused, Lesson, ENOUGH};
 use std::collections::HashSet;
-use workbook_host::{back, step, Answer, End, Parts, Press, Ran, State};
+use workbook_host::{back, step, Answer, End, Parts, Press, Ran, ReturnType, State};
 
 /// What may be written by a call: the frame's slots and one entry of the log. Everything else, the
 /// guards included, has to be as before.
@@ -23,6 +23,7 @@ fn only_the_frame_is_written(before: &Lesson, after: &Lesson) {
     assert!(*after == allowed);
     assert_eq!(after.state.max_stack, before.state.max_stack);
     assert_eq!(after.state.max_locals, before.state.max_locals);
+    assert_eq!(after.state.return_type, before.state.return_type);
 }
 
 /// Where the next entry of the log begins, where there is room for it.
@@ -199,6 +200,7 @@ fn junk(random: &mut Random) -> Lesson {
         } else {
             random.below(4) as u64
         },
+        return_type: return_type(random),
     };
     Lesson {
         memory,
@@ -206,6 +208,13 @@ fn junk(random: &mut Random) -> Lesson {
         log: Lent::new(&log, 0xFEED_FACE),
         state,
     }
+}
+
+/// None, a letter, or a word that counts as none.
+fn return_type(random: &mut Random) -> ReturnType {
+    let letter = u32::from(random.pick(b"BCDFIJLSVZ"));
+    let other = random.next() as u32;
+    ReturnType::from_word(random.pick(&[0, letter, letter, letter | 0x100, other]))
 }
 
 fn words(random: &mut Random, length: usize) -> Vec<u32> {
@@ -224,7 +233,7 @@ fn junk_is_answered() {
         met.extend(answers(&junk(&mut random)));
     }
     assert!(met.contains(&Answer::Granted) && met.contains(&Answer::Throw));
-    for number in (1..=14).filter(|number| *number != 6) {
+    for number in (1..=14).filter(|number| *number != 6).chain([32]) {
         assert!(met.contains(&refused(number)), "no refusal {number}");
     }
 }
@@ -247,6 +256,7 @@ fn parts_that_are_only_read_may_be_the_same() {
         pc: 0,
         depth: 0,
         count: 0,
+        return_type: ReturnType::BYTE,
     };
     let (mut slots, mut state) = ([0], start);
     assert_eq!(step(parts, &mut slots, &mut state), Answer::Granted);

@@ -7,7 +7,7 @@ use common::random::Random;
 use std::collections::HashSet;
 use workbook_host::assembler::assemble;
 use workbook_host::mnemonics::instruction;
-use workbook_host::{step, Answer, Parts, State};
+use workbook_host::{step, Answer, Parts, ReturnType, State};
 
 /// All 164 instructions at offset 0, by opcode.
 #[rustfmt::skip]
@@ -394,6 +394,7 @@ fn what_is_wrong_in_a_text_is_refused_by_the_library() {
             pc,
             depth: 0,
             count: 0,
+            return_type: ReturnType::NONE,
         };
         let parts = Parts {
             code: &code,

@@ -4,7 +4,7 @@
 mod common;
 
 use common::memory::Lent;
-use common::{refused, sheet, Lesson};
+use common::{refused, sheet, with_descriptor, Lesson};
 use workbook_host::records::{arguments, constant, record, sizes};
 use workbook_host::{Answer, Press, Refusal, Value, Walk};
 
@@ -58,6 +58,13 @@ fn refusals_of_an_instruction() {
         (10, sheet(9, 0, &[0x12, 1], &[]), 1),
         (11, sheet(9, 0, &[0xA7, 0xFF, 0xFF], &[]), 1),
         (11, sheet(9, 0, &[0x00], &[]), 1),
+        // ICONST_0, IRETURN of a method that returns nothing; RETURN of one that returns an int.
+        (
+            32,
+            with_descriptor(b"()V", &sheet(9, 0, &[0x03, 0xAC], &[])),
+            2,
+        ),
+        (32, with_descriptor(b"()I", &sheet(9, 0, &[0xB1], &[])), 1),
     ];
     for (number, sheet, presses) in table {
         assert_eq!(

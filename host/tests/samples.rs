@@ -4,10 +4,10 @@
 mod common;
 
 use common::memory::{Lent, Memory};
-use common::{accepted_samples, refused, samples, Lengths, Sample};
+use common::{accepted_samples, refused, samples, Lengths, Sample, ANSWER_WORDS, STATE_WORDS};
 use std::fmt::Write;
 use workbook_host::{back, forward, load, run, step};
-use workbook_host::{Answer, End, Loaded, Parts, State, Value};
+use workbook_host::{Answer, End, Loaded, Parts, ReturnType, State, Value};
 
 /// What `walksheet` lends, and how far it walks.
 const POOL: usize = 4_096;
@@ -109,8 +109,8 @@ const LENGTHS: Lengths = Lengths {
     words: POOL,
     slots: SLOTS,
     log: 10 * STEPS,
-    state: 6,
-    answer: 4,
+    state: STATE_WORDS,
+    answer: ANSWER_WORDS,
 };
 
 /// A state with every slot, the guards around them included.
@@ -147,8 +147,8 @@ fn walked(sample: &Sample) -> Walked {
 
 /// The state that a load gave, from its words.
 fn start(memory: &Memory) -> State {
-    let [max_stack, max_locals, pc, depth, low, high] = *memory.state.part() else {
-        panic!("a state has six words")
+    let [max_stack, max_locals, pc, depth, low, high, return_type] = *memory.state.part() else {
+        panic!("a state has seven words")
     };
     assert_eq!((pc, depth, low, high), (0, 0, 0, 0));
     let (max_stack, max_locals) = (max_stack as u16, max_locals as u16);
@@ -158,6 +158,7 @@ fn start(memory: &Memory) -> State {
         pc,
         depth,
         count: 0,
+        return_type: ReturnType::from_word(return_type),
     }
 }
 

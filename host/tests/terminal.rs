@@ -3,7 +3,7 @@
 
 mod common;
 
-use common::{sample_path, sheet};
+use common::{sample_path, sheet, with_descriptor};
 use std::io::Write;
 use std::path::Path;
 use std::process::{Command, Output, Stdio};
@@ -210,6 +210,28 @@ fn a_large_frame_and_a_large_switch_are_cut() {
         "{next}"
     );
     assert!(next.ends_with(" ...") && next.len() < 140, "{next}");
+}
+
+#[test]
+fn the_return_type_of_a_descriptor_is_shown() {
+    // SIPUSH 128, IRETURN.
+    let sheet = sheet(1, 0, &[0x11, 0x00, 0x80, 0xAC], &[]);
+    let file = Scratch::new("byte", &with_descriptor(b"()B", &sheet));
+    let output = walk(&file.0, "f\nf\n");
+    assert!(output.status.success());
+    let expected = "\
+step 1  offset 3  depth 1  returns byte
+locals: none
+operand stack, top first:
+      0  00000080  128
+next: ireturn
+forward: return int FFFFFF80 (-128)";
+    assert_eq!(drawn(&output)[2], expected);
+
+    let file = Scratch::new("void", &with_descriptor(b"()V", &sheet));
+    let screen = drawn(&walk(&file.0, "f\nf\n")).pop().unwrap();
+    assert!(screen.contains("  returns void\n"), "{screen}");
+    assert!(screen.contains("\nforward: refused 32: "), "{screen}");
 }
 
 #[test]

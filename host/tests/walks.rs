@@ -3,9 +3,9 @@
 
 mod common;
 
-use common::{accepted_samples, refused, sample, samples, sheet};
+use common::{accepted_samples, refused, sample, samples, sheet, with_descriptor};
 use workbook_host::records::{arguments, constant, record, sizes};
-use workbook_host::{load, Answer, End, Refusal, State, Value, Walk};
+use workbook_host::{load, Answer, End, Refusal, ReturnType, State, Value, Walk};
 
 #[test]
 fn a_walk_opens_what_a_load_accepts() {
@@ -106,6 +106,40 @@ fn a_walk_shows_where_it_stands() {
     // Popping changes no word, so the frame still has it above the top.
     assert_eq!(walk.frame(), [4, 0xFFFF_FFFE, 0, 0xFFFF_FFFE]);
     assert_eq!(walk.parts().code, code);
+}
+
+#[test]
+fn a_walk_of_a_descriptor_goes_forward_back_and_by_runs() {
+    // LLOAD_0, L2I, IRETURN: the low word of the first of two arguments.
+    let sheet = sheet(2, 3, &[0x1E, 0x88, 0xAC], &[0x0102_0380, 7, 9]);
+    let start = Walk::open(with_descriptor(b"(JI)B", &sheet)).unwrap();
+    let mut walk = start.clone();
+    assert_eq!(walk.return_type(), ReturnType::BYTE);
+    let byte = Value::Int(-128);
+    for _ in 0..2 {
+        assert_eq!(
+            [walk.forward(), walk.forward(), walk.forward()],
+            [Answer::Granted, Answer::Granted, Answer::Return(byte)]
+        );
+        assert_eq!(walk.stack(), [0x0102_0380]);
+        assert_eq!(walk.state().return_type, ReturnType::BYTE);
+        assert_eq!(
+            [walk.back(), walk.back(), walk.back()],
+            [Answer::Granted, Answer::Granted, refused(13)]
+        );
+        assert_eq!(
+            (walk.state(), walk.frame()),
+            (start.state(), &[0x0102_0380, 7, 9, 0, 0][..])
+        );
+    }
+    let reached = start.run(u64::MAX);
+    assert_eq!((reached.ran.end, reached.ran.steps), (End::Return(byte), 2));
+    assert_eq!(reached.state.return_type, ReturnType::BYTE);
+    // An argument word too few, and a return type that IRETURN does not suit.
+    let few = Walk::open(with_descriptor(b"(JJ)B", &sheet));
+    assert_eq!(few.err(), Some(Refusal::SHEET_DESCRIPTOR));
+    let long = Walk::open(with_descriptor(b"(JI)J", &sheet)).unwrap();
+    assert_eq!(long.run(9).ran.end, End::Refused(Refusal::RETURN_TYPE));
 }
 
 #[test]

@@ -7,7 +7,7 @@
 use std::io::{self, BufRead, IsTerminal, Write};
 use std::process::ExitCode;
 use std::{env, fs};
-use workbook_host::{Ran, State, Walk};
+use workbook_host::{Ran, ReturnType, State, Walk};
 
 const KEYS: &str =
     "keys: f, n or Enter forward; b back; r [N] run N steps from the load and compare; q quit";
@@ -99,9 +99,13 @@ fn draw(walk: &Walk, answer: &str, out: &mut impl Write, clear: bool) -> io::Res
         // To the upper left corner, and everything after it cleared.
         write!(out, "\x1b[H\x1b[2J")?;
     }
+    let returns = match walk.return_type() {
+        ReturnType::NONE => String::new(),
+        return_type => format!("  returns {return_type}"),
+    };
     writeln!(
         out,
-        "step {}  offset {}  depth {}",
+        "step {}  offset {}  depth {}{returns}",
         walk.count(),
         walk.pc(),
         walk.depth()

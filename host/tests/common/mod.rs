@@ -66,6 +66,10 @@ pub fn refused(number: u32) -> Answer {
     Answer::Refused(Refusal::new(number).unwrap())
 }
 
+/// Words of a state and of an answer.
+pub const STATE_WORDS: usize = 7;
+pub const ANSWER_WORDS: usize = 4;
+
 /// A sheet without constants.
 pub fn sheet(max_stack: u16, max_locals: u16, code: &[u8], words: &[u32]) -> Vec<u8> {
     [
@@ -74,6 +78,12 @@ pub fn sheet(max_stack: u16, max_locals: u16, code: &[u8], words: &[u32]) -> Vec
         arguments(words),
     ]
     .concat()
+}
+
+/// A sheet with a descriptor, which stands between the sizes and the code.
+pub fn with_descriptor(descriptor: &[u8], sheet: &[u8]) -> Vec<u8> {
+    let (sizes, rest) = sheet.split_at(8);
+    [sizes, &record(b"DS", descriptor), rest].concat()
 }
 
 impl<T: Copy + PartialEq + UpperHex> Lent<T> {
@@ -102,8 +112,8 @@ pub const ENOUGH: Lengths = Lengths {
     words: 20,
     slots: 400,
     log: 60,
-    state: 8,
-    answer: 6,
+    state: STATE_WORDS + 2,
+    answer: ANSWER_WORDS + 2,
 };
 
 impl Memory {
