@@ -20,7 +20,7 @@ final class ClassFile {
 
   // ---- constants: each gives its index
 
-  int text(byte[] bytes) throws IOException {
+  private int text(byte[] bytes) throws IOException {
     pool.writeByte(1);
     pool.writeShort(bytes.length);
     pool.write(bytes);

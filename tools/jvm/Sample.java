@@ -68,7 +68,7 @@ record Sample(
     return bytes.toByteArray();
   }
 
-  private static void record(DataOutputStream out, String mark, int length) throws IOException {
+  static void record(DataOutputStream out, String mark, int length) throws IOException {
     out.writeBytes(mark);
     out.writeShort(length);
   }

@@ -8,7 +8,7 @@ final class TypedMaker extends Maker {
   private static final String[] TYPES = {"Z", "B", "C", "S", "I", "J", "F", "D", "V", "L", "["};
   private static final String[] NAMES = {"java/lang/Object", "java/lang/Object", "java/lang/String", "T", "a/b/C", "V", "$/_-0", "J/I"};
   private static final int FULL = 255; // places, at most
-  private static final int LONGEST = 200; // bytes of code, so that the list stays small
+  private static final int LONGEST = 120; // bytes of code, so that the list stays small
 
   private final String type; // that is returned
   private final String reference; // the type of the references that the code reads
