@@ -76,7 +76,7 @@ public final class Descriptors {
     }
     places(read, bytes);
     char kind = Descriptor.kind(read.result());
-    put(sheet(LOCALS, bytes, code(kind), read.places()), Format.end(bytes, read, STACK, code(kind), kind));
+    put(sheet(LOCALS, bytes, code(kind), read.places()), Format.end(bytes, read, STACK, code(kind)));
   }
 
   /** The locals that hold the arguments and no fewer are enough for the virtual machine. */
@@ -105,8 +105,9 @@ public final class Descriptors {
     byte[] bytes = DescriptorMaker.bytes("()" + type);
     String end;
     try {
-      end = Format.end(bytes, Descriptor.of(bytes), STACK, code(kind), kind);
+      end = Format.end(bytes, Descriptor.of(bytes), STACK, code(kind));
     } catch (VerifyError e) {
+      if (!e.getMessage().matches("(?s).*T\\.run\\S* @\\d+: [adfil]?return\\n.*")) throw e; // the opcode itself, not its caller
       end = "refused 32";
     }
     check(end.equals("refused 32") == (Descriptor.kind(type) != kind), bytes, "returns with another opcode on the virtual machine");

@@ -4,6 +4,10 @@ import java.lang.reflect.InvocationTargetException;
 
 /** What the virtual machine that runs this program says of a static method with a descriptor. Class files have version 52. */
 final class Format {
+  private static final String[] REASONS = {
+    "illegal signature", "Illegal UTF8 string", "Too many arguments", "more than 255 dimensions", "Class name is empty or contains illegal character"
+  };
+
   private Format() {}
 
   /** Why no class may have a method with this descriptor, or null where one may. */
@@ -18,10 +22,9 @@ final class Format {
     }
   }
 
+  /** The error without the names in it. */
   private static String reason(ClassFormatError e) {
-    for (String known : new String[] {"illegal signature", "Illegal UTF8 string", "Too many arguments", "255 dimensions", "Class name is empty or contains illegal"}) {
-      if (e.getMessage().contains(known)) return known;
-    }
+    for (String known : REASONS) if (e.getMessage().contains(known)) return known;
     return e.getMessage();
   }
 
@@ -42,13 +45,13 @@ final class Format {
     return file.bytes();
   }
 
-  /** How its method ends with arguments of 0, where it returns with the opcode of a kind. Throws a LinkageError where the verifier refuses it. */
-  static String end(byte[] descriptor, Descriptor read, int stack, byte[] code, char kind) throws Exception {
+  /** How its method ends with arguments of 0. Throws a LinkageError where the verifier refuses it. */
+  static String end(byte[] descriptor, Descriptor read, int stack, byte[] code) throws Exception {
     HotSpot.Loader loader = new HotSpot.Loader();
     loader.define("T", method(descriptor, stack, read.places(), code));
     Class<?> caller = loader.define("C", caller(descriptor, read));
     try {
-      return HotSpot.line(kind, value -> value == null ? 0 : -1, caller.getMethods()[0].invoke(null));
+      return HotSpot.line(Descriptor.kind(read.result()), value -> value == null ? 0 : -1, caller.getMethods()[0].invoke(null));
     } catch (InvocationTargetException e) {
       if (e.getCause() instanceof LinkageError refused) throw refused;
       throw e;
