@@ -9,6 +9,7 @@ final class DescriptorMaker {
     "\u00C0\u0080", "\u00C2\u0080", "\u00DF\u00BF", "\u00E0\u00A0\u0080", "\u00ED\u00A0\u0080", "\u00ED\u00BF\u00BF", "\u00EF\u00BF\u00BF"
   };
   private static final int[] BYTES = {0, 0x7F, 0x80, 0xBF, 0xC0, 0xC1, 0xC2, 0xDF, 0xE0, 0xE1, 0xED, 0xEF, 0xF0, 0xF4, 0xF8, 0xFE, 0xFF};
+  private static final String[] NEXT = {"\177", "\u0080", "\u00BF", "\u00C0"}; // neighbours of the limits of a second byte
   private static final int FULL = 255; // places, and dimensions, at most
 
   private final Dice dice;
@@ -149,13 +150,13 @@ final class DescriptorMaker {
     return out;
   }
 
-  /** Sequences of two and three bytes: each first byte, with the neighbours of the limits after it. */
+  /** Sequences of bytes: each first one, with the neighbours of the limits after it. */
   private static void units(List<String> out) {
-    for (char first = 0xC0; first < 0xE0; first++) for (int next : new int[] {0x7F, 0x80, 0xBF, 0xC0}) out.add("(L" + first + (char) next + ";)V");
-    for (char first = 0xE0; first < 0xF0; first++) {
-      for (int next : new int[] {0x7F, 0x80, 0x9F, 0xA0, 0xBF, 0xC0}) out.add("(L" + first + (char) next + "\u0080;)V");
-      out.add("(L" + first + "\u00A0\u00C0;)V");
-      out.add("(L" + first + "\u00A0;)V");
+    for (char first : "\u0080\u009F\u00A0\u00BF".toCharArray()) for (String next : NEXT) out.add("(L" + first + next + ";)V");
+    for (char first = 0xC0; first < 0xE0; first++) for (String next : NEXT) out.add("(L" + first + next + ";)V");
+    for (char first = 0xE0; first < 0x100; first++) {
+      for (String next : NEXT) out.add("(L" + first + next + "\u0080;)V");
+      for (String rest : new String[] {"\u009F\u00BF", "\u00A0\u0080", "\u00A0\u00C0", "\u00A0", "\u00A0\u0080\u0080"}) out.add("(L" + first + rest + ";)V");
     }
     out.add("(L\u00F0\u0090\u0080\u0080;)V"); // UTF-8's own form above FFFF
     out.add("(L\u00ED\u00A0\u0080\u00ED\u00B0\u0080;)V"); // and the modified one

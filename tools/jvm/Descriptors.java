@@ -68,7 +68,8 @@ public final class Descriptors {
   private void descriptor(byte[] bytes) throws Exception {
     Descriptor read = Descriptor.of(bytes);
     String refusal = Format.refusal(bytes);
-    check((read == null) == (refusal != null), bytes, "is " + (read == null ? "bad" : "good") + " to the parser; the virtual machine says: " + refusal);
+    String told = "is " + (read == null ? "bad" : "good") + " to the parser; the virtual machine says: " + refusal;
+    if (!check((read == null) == (refusal != null), bytes, told)) return;
     tally(read == null ? "bad, the virtual machine says: " + refusal : "good, returns " + read.result().charAt(0));
     if (read == null) {
       put(sheet(LOCALS, bytes, CODES[0], 0), "sheet 31");
@@ -90,7 +91,7 @@ public final class Descriptors {
   /** Another number of words than it takes, or fewer locals than words. */
   private void wordCount(byte[] bytes, Dice dice) throws IOException {
     Descriptor read = Descriptor.of(bytes);
-    check(read != null && Format.refusal(bytes) == null, bytes, "is bad");
+    if (!check(read != null && Format.refusal(bytes) == null, bytes, "is bad")) return;
     places(read, bytes);
     int takes = read.places(), words = Math.max(0, takes + dice.pick(-2, -1, 0, 1, 1, 1, 2, -takes));
     int locals = dice.pick(LOCALS, LOCALS, takes, words, Math.max(0, words - 1));
@@ -121,12 +122,14 @@ public final class Descriptors {
 
   // ---- what is told and written
 
-  private void check(boolean good, byte[] bytes, String otherwise) {
-    if (good) return;
+  /** Tells of it where it is not good. */
+  private boolean check(boolean good, byte[] bytes, String otherwise) {
+    if (good) return true;
     disagreements++;
     StringBuilder text = new StringBuilder();
     for (byte b : bytes) text.append(b > 32 && b < 127 ? "" + (char) b : String.format("\\%02X", b & 255));
     System.out.println(text + " " + otherwise);
+    return false;
   }
 
   private void tally(String what) {
