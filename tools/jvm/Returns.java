@@ -37,7 +37,7 @@ final class Returns {
   }
 
   void print() {
-    tallies.forEach((type, n) -> System.out.println(type + ": " + n[0] + " methods, " + n[1] + " return, " + n[2] + " return an int that is narrowed to another"));
+    tallies.forEach((type, n) -> System.out.println(type + ": " + n[0] + " methods, " + n[1] + " return, " + n[2] + " an int that is narrowed to another"));
     System.out.println("narrowed otherwise than JVMS says: " + wrong);
   }
 }

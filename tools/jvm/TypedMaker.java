@@ -1,7 +1,7 @@
 /**
  * Makes a method with a descriptor, whose return type may be narrower than the int that its code returns.
  *
- * <p>The code reads references of one type only, so that no class has to be known where two ways meet. Parameters of other reference types take their
+ * <p>The code reads references of one type only, so that any of them may be returned where two ways meet. Parameters of other reference types take their
  * places and are not read.
  */
 final class TypedMaker extends Maker {
@@ -17,7 +17,7 @@ final class TypedMaker extends Maker {
   private TypedMaker(Dice dice, int span) {
     super(dice, span);
     String first = TYPES[dice.weighted(16, 16, 16, 16, 8, 7, 5, 5, 5, 5, 5)];
-    reference = first.equals("L") || first.equals("V") || dice.chance(50) && !first.equals("[") ? name() : array();
+    reference = first.equals("[") || !first.equals("L") && dice.chance(50) ? array() : name();
     type = first.equals("L") || first.equals("[") ? reference : first;
   }
 
