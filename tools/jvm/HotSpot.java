@@ -1,31 +1,55 @@
 import java.io.ByteArrayOutputStream;
 import java.io.DataOutputStream;
 import java.io.IOException;
+import java.lang.reflect.Array;
 import java.lang.reflect.InvocationTargetException;
+import java.nio.charset.StandardCharsets;
 import java.util.List;
+import java.util.function.ToIntFunction;
 
 /**
  * Runs a sample on the virtual machine that runs this program.
  *
  * <p>The class file has version 49, so the old verifier infers all kinds and needs no stack maps. Its pool has the sample's constants at the sample's
  * own indices, so that the same code bytes serve both; the gaps are filled and its own names follow.
+ *
+ * <p>A method with a descriptor of its own is called by the method of another class, whose int, long, float, double or reference is handed on as it
+ * came: what is seen is what the method itself gave back.
  */
 final class HotSpot {
   private HotSpot() {}
 
+  /** Knows the classes that it defines, those of Java, and an empty one by any other name: the verifier asks for it where two references meet. */
+  static final class Loader extends ClassLoader {
+    Loader() {
+      super(null);
+    }
+
+    @Override
+    protected Class<?> findClass(String name) {
+      try {
+        return define(name, new ClassFile(name.replace('.', '/')).bytes());
+      } catch (IOException e) {
+        throw new IllegalStateException(e);
+      }
+    }
+
+    Class<?> define(String name, byte[] file) {
+      return defineClass(name, file, 0, file.length);
+    }
+  }
+
   /** The last line owed. Throws a LinkageError where the verifier refuses the method. */
   static String end(Sample sample) throws Exception {
     Object[] arguments = arguments(sample);
-    byte[] file = file(sample);
-    Class<?> made = new ClassLoader(null) {
-      Class<?> make() {
-        return defineClass("T", file, 0, file.length);
-      }
-    }.make();
+    Loader loader = new Loader();
+    Class<?> made = loader.define("T", file(sample));
+    if (sample.descriptor() != null) made = loader.define("C", caller(sample));
     try {
-      return line(sample, arguments, made.getMethods()[0].invoke(null, arguments));
+      return line(sample.result(), value -> word(sample, arguments, value), made.getMethods()[0].invoke(null, arguments));
     } catch (InvocationTargetException e) {
       if (e.getCause() instanceof ArithmeticException) return "throw arithmetic";
+      if (e.getCause() instanceof LinkageError refused) throw refused;
       throw e;
     }
   }
@@ -39,20 +63,21 @@ final class HotSpot {
     byte[] code = new byte[instructions.length];
     for (int i = 0; i < code.length; i++) code[i] = (byte) instructions[i];
     try {
-      end(new Sample(2, 2, code, List.of(), "", List.of(), 'I', List.of()));
+      end(new Sample(2, 2, code, List.of(), "", List.of(), 'I', List.of(), null));
       return false;
     } catch (VerifyError e) {
       return true;
     }
   }
 
-  private static String line(Sample sample, Object[] arguments, Object value) {
-    return switch (sample.result()) {
+  /** The line for a value of a kind, with the words of references. */
+  static String line(char kind, ToIntFunction<Object> word, Object value) {
+    return switch (kind) {
       case 'I' -> String.format("return int %08X", (Integer) value);
       case 'J' -> String.format("return long %016X", (Long) value);
       case 'F' -> ((Float) value).isNaN() ? "return float nan" : String.format("return float %08X", Float.floatToRawIntBits((Float) value));
       case 'D' -> ((Double) value).isNaN() ? "return double nan" : String.format("return double %016X", Double.doubleToRawLongBits((Double) value));
-      case 'A' -> String.format("return ref %08X", word(sample, arguments, value));
+      case 'A' -> String.format("return ref %08X", word.applyAsInt(value));
       default -> "return void";
     };
   }
@@ -75,9 +100,29 @@ final class HotSpot {
   }
 
   private static Object object(Sample sample, Object[] before, int at) {
+    List<String> types = types(sample);
     long word = sample.arguments().get(at);
-    for (int i = 0; i < at; i++) if (sample.kinds().charAt(i) == 'A' && sample.arguments().get(i) == word) return before[i];
-    return word == 0 ? null : new Object();
+    for (int i = 0; i < at; i++) if (types.get(i).equals(types.get(at)) && sample.arguments().get(i) == word) return before[i];
+    return word == 0 ? null : object(types.get(at));
+  }
+
+  /** The types of the parameters. */
+  private static List<String> types(Sample sample) {
+    return Descriptor.of((sample.descriptor() != null ? sample.descriptor() : plain(sample)).getBytes(StandardCharsets.ISO_8859_1)).parameters();
+  }
+
+  /** Whether there are objects of this type, or only null. */
+  static boolean known(String type) {
+    return type.substring(type.lastIndexOf('[') + 1).matches("[BCDFIJSZ]|Ljava/lang/(Object|String);");
+  }
+
+  private static Object object(String type) {
+    try {
+      if (type.startsWith("[")) return Array.newInstance(Class.forName(type.replace('/', '.')).getComponentType(), 0);
+      return type.equals("Ljava/lang/String;") ? new String("text") : new Object();
+    } catch (ClassNotFoundException e) {
+      throw new IllegalStateException(e);
+    }
   }
 
   private static int word(Sample sample, Object[] arguments, Object value) {
@@ -86,7 +131,26 @@ final class HotSpot {
     throw new IllegalStateException("an object from nowhere");
   }
 
-  // ---- the class file
+  // ---- the class files
+
+  /** A method with a plain descriptor that hands its arguments on to the sample's, and returns what it gets. */
+  private static byte[] caller(Sample sample) throws IOException {
+    ClassFile out = new ClassFile("C");
+    ByteArrayOutputStream code = new ByteArrayOutputStream();
+    List<String> types = types(sample);
+    int at = 0;
+    for (String type : types) {
+      char kind = Descriptor.kind(type);
+      code.write(21 + Operands.KINDS.indexOf(kind));
+      code.write(at);
+      at += Frame.size(kind);
+      if (kind == 'A') out.operand(code, 192, out.type(type.startsWith("[") ? type : type.substring(1, type.length() - 1)));
+    }
+    out.operand(code, 184, out.method("T", "run", sample.descriptor().getBytes(StandardCharsets.ISO_8859_1)));
+    code.write(Descriptor.returns(sample.result()));
+    out.add("run", plain(sample).getBytes(StandardCharsets.ISO_8859_1), Math.max(at, 2), at, code.toByteArray());
+    return out.bytes();
+  }
 
   private static byte[] file(Sample sample) throws IOException {
     ByteArrayOutputStream bytes = new ByteArrayOutputStream();
@@ -102,7 +166,7 @@ final class HotSpot {
       out.writeByte(7); // a class
       out.writeShort(name);
     }
-    for (String name : new String[] {"run", descriptor(sample), "Code"}) text(out, name);
+    for (String name : new String[] {"run", sample.descriptor() != null ? sample.descriptor() : plain(sample), "Code"}) text(out, name);
     // public and super, this class, Object, no interfaces, no fields, one method: public and static, its name and descriptor, one attribute
     shorts(out, 0x21, first + 2, first + 3, 0, 0, 1, 9, first + 4, first + 5, 1, first + 6);
     out.writeInt(12 + sample.code().length);
@@ -124,7 +188,8 @@ final class HotSpot {
     }
   }
 
-  private static String descriptor(Sample sample) {
+  /** The descriptor of what the instructions know, every reference an Object. */
+  private static String plain(Sample sample) {
     return ("(" + sample.kinds() + ")" + sample.result()).replace("A", "Ljava/lang/Object;");
   }
 

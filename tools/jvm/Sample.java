@@ -14,8 +14,10 @@ import java.util.List;
  * @param arguments their bits; a reference is its word, 0 for null
  * @param result the kind that is returned, V for void
  * @param forms the forms of the stack instructions in it
+ * @param descriptor the descriptor, or null where the sheet has none
  */
-record Sample(int stack, int locals, byte[] code, List<Constant> pool, String kinds, List<Long> arguments, char result, List<String> forms) {
+record Sample(
+    int stack, int locals, byte[] code, List<Constant> pool, String kinds, List<Long> arguments, char result, List<String> forms, String descriptor) {
 
   /** A constant: its pool index, its kind, its bits. */
   record Constant(int index, char kind, long bits) {
@@ -32,6 +34,12 @@ record Sample(int stack, int locals, byte[] code, List<Constant> pool, String ki
     return pool.isEmpty() ? 1 : pool.get(pool.size() - 1).next();
   }
 
+  /** The same with another return type. */
+  Sample returning(String type) {
+    String other = descriptor.substring(0, descriptor.lastIndexOf(')') + 1) + type;
+    return new Sample(stack, locals, code, pool, kinds, arguments, result, forms, other);
+  }
+
   /** The sheet (docs/RULES.md, 'The sheet'). */
   byte[] sheet() throws IOException {
     ByteArrayOutputStream bytes = new ByteArrayOutputStream();
@@ -39,6 +47,10 @@ record Sample(int stack, int locals, byte[] code, List<Constant> pool, String ki
     record(out, "LM", 4);
     out.writeShort(stack);
     out.writeShort(locals);
+    if (descriptor != null) {
+      record(out, "DS", descriptor.length());
+      out.writeBytes(descriptor);
+    }
     record(out, "CD", code.length);
     out.write(code);
     for (Constant c : pool) {
@@ -56,7 +68,7 @@ record Sample(int stack, int locals, byte[] code, List<Constant> pool, String ki
     return bytes.toByteArray();
   }
 
-  private static void record(DataOutputStream out, String mark, int length) throws IOException {
+  static void record(DataOutputStream out, String mark, int length) throws IOException {
     out.writeBytes(mark);
     out.writeShort(length);
   }

@@ -71,6 +71,17 @@ final class Values {
     };
   }
 
+  /** What is left of an int where this type is returned (JVMS 6.5.ireturn). */
+  static int narrow(char type, int value) {
+    return switch (type) {
+      case 'Z' -> value & 1;
+      case 'B' -> (byte) value;
+      case 'C' -> (char) value;
+      case 'S' -> (short) value;
+      default -> value;
+    };
+  }
+
   /** The bits of some value of a kind: I, J, F or D. */
   static long some(char kind, Dice dice) {
     return switch (kind) {

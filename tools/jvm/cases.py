@@ -4,10 +4,12 @@ Needs target/staticlib/libworkbook.a (rt staticlib workbook) and a C compiler.
 """
 
 import pathlib
+import re
 import subprocess
 import sys
 
 ROOT = pathlib.Path(__file__).resolve().parent.parent.parent
+NARROW = {"Z": (1, 0), "B": (0xFF, 0x80), "C": (0xFFFF, 0), "S": (0xFFFF, 0x8000)}  # of a returned int: those kept, and the sign among them
 
 
 class Case:
@@ -28,6 +30,22 @@ def agrees(line, want):
     if want.endswith(" nan"):
         return line.startswith(want[:-3]) and is_nan(line)
     return line == want
+
+
+def narrowed(line, sheet):
+    """The line of an int that is returned as the sheet's descriptor says (JVMS 6.5.ireturn)."""
+    if not line.startswith("return int "):
+        return line
+    value, kept, sign = int(line[11:], 16), *NARROW.get(return_type(sheet), (0xFFFFFFFF, 0))
+    return f"return int {((value & kept ^ sign) - sign) & 0xFFFFFFFF:08X}"
+
+
+def return_type(sheet):
+    """The first character of the return type of a good descriptor, empty where the sheet has none."""
+    if sheet[8:10] != b"DS":
+        return ""
+    descriptor = sheet[12 : 12 + int.from_bytes(sheet[10:12], "big")]
+    return re.match(rb"\((?:\[*(?:[BCDFIJSZ]|L[^;]*;))*\)(.)", descriptor, re.DOTALL)[1].decode()
 
 
 def unpack(data):

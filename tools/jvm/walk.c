@@ -23,7 +23,7 @@ static const uint8_t *code;
 static size_t code_len;
 
 /* Rows that the method meets, in the order of the table. */
-enum { ROWS = 40 };
+enum { ROWS = 44 };
 static char met[ROWS];
 
 /* Executed in this method, and how many methods execute it: opcodes, then WIDE by its second byte, then switches by opcode and offset modulo 4. */
@@ -85,6 +85,17 @@ static int nan_row(int opcode) {
     return (float_nan(word(0)) && !(word(0) & 0x400000)) || (float_nan(word(1)) && !(word(1) & 0x400000)) ? 27 : 26;
 }
 
+/* A returned int that its type is too narrow for. */
+static int narrow_row(uint32_t value) {
+    switch (state[WORKBOOK_RETURN_TYPE]) {
+    case 'B': return value + 0x80 > 0xFF ? 40 : 0;
+    case 'C': return value > 0xFFFF ? 41 : 0;
+    case 'S': return value + 0x8000 > 0xFFFF ? 42 : 0;
+    case 'Z': return value > 1 ? 43 : 0;
+    default: return 0;
+    }
+}
+
 static void meet(int row) {
     if (row > 0) met[row] = 1;
 }
@@ -104,6 +115,7 @@ static int look(void) {
     case 170: meet(word(0) == word_at((pc / 4 + 1) * 4 + 8) ? 10 : 0); /* and its operands */
     /* fall through */
     case 171: meet(padding_row(pc, opcode == 171)); break;
+    case 172: meet(narrow_row(word(0))); break;
     case 196: meet(code[pc + 1] == 132 && code[pc + 4] > 127 ? 7 : 0); break;
     case 141: return 38;
     case 144: return 39;
