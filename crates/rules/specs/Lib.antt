@@ -5,6 +5,7 @@ pub mod Fetch
 pub mod Questions
 pub mod Step
 pub mod Run
+pub mod Descriptor
 pub mod Sheet
 pub mod History
 pub mod PlainWalk
