@@ -35,7 +35,14 @@ const DIMENSIONS: usize = 255;
 fn is_base(c: u8) -> bool
     ensures { λ r. ⌜ r ≡ isBase c ⌝ }
 {
-    c == BYTE || c == CHAR || c == DOUBLE || c == FLOAT || c == INT || c == LONG || c == SHORT || c == BOOLEAN
+    c == BYTE
+        || c == CHAR
+        || c == DOUBLE
+        || c == FLOAT
+        || c == INT
+        || c == LONG
+        || c == SHORT
+        || c == BOOLEAN
 }
 
 // The offset after the brackets, of which it passes at most 255.

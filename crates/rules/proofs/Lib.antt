@@ -11,6 +11,10 @@ pub mod Lawful
 pub mod Run
 pub mod History
 pub mod Sheet
+pub mod Characters
+pub mod Names
+pub mod Fields
+pub mod Descriptor
 pub mod AcceptedLoad
 pub mod Pasted
 pub mod Scratch
