@@ -1,8 +1,11 @@
 // The whole descriptor: ( parameters ) return, and nothing after it.
-use crate::fields::ARRAY;
-use crate::fields::CLASS;
 use crate::fields::field_end;
 use crate::fields::places_of;
+use crate::letters::ARRAY;
+use crate::letters::CLASS;
+use crate::letters::CLOSING;
+use crate::letters::OPENING;
+use crate::letters::VOID;
 use operands::read_code_u8;
 ghost use mathlib.Core.Path.{_≡_};
 ghost use Prim.Native.Nat.{_≤_};
@@ -21,12 +24,6 @@ struct Parameters {
     end: usize,
     places: u32,
 }
-
-const OPENING: u8 = b'(';
-
-const CLOSING: u8 = b')';
-
-const VOID: u8 = b'V';
 
 // The parameters of a method have at most so many places.
 const PLACES: u32 = 255;

@@ -1,4 +1,14 @@
 // A field type (JVMS 4.3.2): its brackets, then a base type or a class.
+use crate::letters::ARRAY;
+use crate::letters::BOOLEAN;
+use crate::letters::BYTE;
+use crate::letters::CHAR;
+use crate::letters::CLASS;
+use crate::letters::DOUBLE;
+use crate::letters::FLOAT;
+use crate::letters::INT;
+use crate::letters::LONG;
+use crate::letters::SHORT;
 use crate::names::name_end;
 use operands::read_code_u8;
 ghost use mathlib.Core.Path.{_≡_};
@@ -7,27 +17,6 @@ ghost use lib.ListN.{length};
 ghost use Rattle.values.specs.Kinds.{places};
 ghost use Rattle.rules.specs.Descriptor.{isBase, bracketsEnd, elementEnd, fieldEnd, kindOf};
 
-// The characters of JVMS, table 4.3-A.
-const BYTE: u8 = b'B';
-
-const CHAR: u8 = b'C';
-
-const DOUBLE: u8 = b'D';
-
-const FLOAT: u8 = b'F';
-
-const INT: u8 = b'I';
-
-const LONG: u8 = b'J';
-
-pub(crate) const CLASS: u8 = b'L';
-
-const SHORT: u8 = b'S';
-
-const BOOLEAN: u8 = b'Z';
-
-pub(crate) const ARRAY: u8 = b'[';
-
 // An array has at most so many.
 const DIMENSIONS: usize = 255;
 
@@ -35,14 +24,14 @@ const DIMENSIONS: usize = 255;
 fn is_base(c: u8) -> bool
     ensures { λ r. ⌜ r ≡ isBase c ⌝ }
 {
-    c == BYTE
-        || c == CHAR
-        || c == DOUBLE
-        || c == FLOAT
-        || c == INT
-        || c == LONG
-        || c == SHORT
-        || c == BOOLEAN
+    (c == BYTE)
+        | (c == CHAR)
+        | (c == DOUBLE)
+        | (c == FLOAT)
+        | (c == INT)
+        | (c == LONG)
+        | (c == SHORT)
+        | (c == BOOLEAN)
 }
 
 // The offset after the brackets, of which it passes at most 255.
