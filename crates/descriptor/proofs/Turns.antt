@@ -1,17 +1,18 @@
 -- One turn of each loop, on what the called functions gave. Assumes nothing.
 use Prim.Native.Nat.{ℕ, suc, _+_, _-_, _≤_, _<_}
 use mathlib.Core.Path.{_≡_, refl, sym, ap, _∙_}
-use mathlib.Core.Bool.{_||_, cond}
+use mathlib.Core.Bool.{true, false, _||_, cond}
 use mathlib.Core.List.{List, []}
+use mathlib.Core.Logic.{⊎-elim}
 use native.Mathlib.Omega.{arith}
 use native.Mathlib.Nat.{zero-add, add-zero, add-assoc}
 use lib.Dec.{eqb}
 use lib.ListN.{length}
-use borrow.Author.Tests.{eqb-true, ne-eqb}
+use borrow.Author.Tests.{eqb-true}
 use Rattle.values.specs.Kinds.{Kind, int, long, float, double, reference, any, places, placesOf}
 use Rattle.rules.specs.Fetch.{u8}
 use Rattle.rules.specs.Descriptor.{doubleType, floatType, longType, classType, arrayType, slash, semicolon, characterAt, bracketsEnd, fieldEnd, kindOf, parameterKinds, parametersEnd}
-use Rattle.rules.proofs.Characters.{cases, inside, character-stands}
+use Rattle.rules.proofs.Characters.{cases, or-true, or-false, inside, character-stands}
 use Rattle.rules.proofs.Names.{nameFrom, name-ended, name-goes-on}
 use Rattle.rules.proofs.Fields.{one-bracket, field-forward}
 use Rattle.rules.proofs.Descriptor.{no-more, kindsAt, fieldsAt, all-parameters, next-field}
@@ -53,10 +54,15 @@ brackets-done d at n h = let e : 255 - n ≡ 0 = omega arith in rw e
 
 -- ---- the places of a field type
 
-pub one-place : (first : ℕ) → (first ≡ longType → ⊥) → (first ≡ doubleType → ⊥) → 1 ≡ places (kindOf first)
-one-place first l d =
-    rw (ne-eqb first longType l, ne-eqb first doubleType d)
-    (cases One (eqb first floatType) float _ (λ _. refl) (λ _. cases One (eqb first classType || eqb first arrayType) reference int (λ _. refl) (λ _. refl)))
+pub two-places : (first : ℕ) → (eqb first longType || eqb first doubleType) ≡ true → 2 ≡ places (kindOf first)
+two-places first h = ⊎-elim (λ e. rw e) (λ e. cases Two (eqb first longType) long _ (λ _. refl) (λ _. rw e)) (or-true (eqb first longType) (eqb first doubleType) h)
+  where
+    Two : Kind → Type 0
+    Two k = 2 ≡ places k
+
+pub one-place : (first : ℕ) → (eqb first longType || eqb first doubleType) ≡ false → 1 ≡ places (kindOf first)
+one-place first h = let (l, m) = or-false (eqb first longType) (eqb first doubleType) h in
+    rw (l, m) (cases One (eqb first floatType) float _ (λ _. refl) (λ _. cases One (eqb first classType || eqb first arrayType) reference int (λ _. refl) (λ _. refl)))
   where
     One : Kind → Type 0
     One k = 1 ≡ places k

@@ -78,10 +78,7 @@ pub fn field_end(d: &[u8], at: usize) -> usize
 pub fn places_of(first: u8) -> u32
     ensures { λ r. ⌜ r ≡ places (kindOf first) ⌝ }
 {
-    if first == LONG {
-        return 2;
-    }
-    if first == DOUBLE {
+    if (first == LONG) | (first == DOUBLE) {
         return 2;
     }
     1

@@ -25,6 +25,10 @@ pub or-true : (a b : Bool) → (a || b) ≡ true → (a ≡ true) ⊎ (b ≡ tru
 or-true true b e = inl refl
 or-true false b e = inr e
 
+pub or-false : (a b : Bool) → (a || b) ≡ false → (a ≡ false) × (b ≡ false)
+or-false true b e = let z : _≡_ {A = ℕ} 0 1 = cc in absurd (omega arith)
+or-false false b e = (refl, e)
+
 pub not-above : (n : ℕ) → (0 < n → ⊥) → n ≡ 0
 not-above zero h = refl
 not-above (suc n) h = absurd (h (omega arith))
