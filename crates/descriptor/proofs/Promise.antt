@@ -1,14 +1,14 @@
 -- What a descriptor answers, question by question, with the promise that the answer is the grammar's. Assumes nothing.
 use Prim.Native.Nat.{ℕ, _+_, _≤_, _<_}
-use mathlib.Core.Path.{_≡_, refl, sym, ap, subst, _∙_}
+use mathlib.Core.Path.{_≡_, refl, sym, subst}
 use mathlib.Core.List.{List}
 use native.Mathlib.Omega.{arith}
 use lib.ListN.{length}
-use Rattle.values.specs.Kinds.{Kind, placesOf}
+use Rattle.values.specs.Kinds.{placesOf}
 use Rattle.rules.specs.Check.{Check, passed, refused}
 use Rattle.rules.specs.Fetch.{u8}
-use Rattle.rules.specs.Descriptor.{opening, closing, MethodDescriptor, parameterKinds, parametersEnd, returnLetter, returnEnd, returnType, descriptorCheck}
-use Rattle.rules.proofs.Characters.{inside}
+use Rattle.rules.specs.Descriptor.{opening, closing, parameterKinds, parametersEnd, returnLetter, returnEnd, returnType, descriptorCheck}
+use Rattle.rules.proofs.Standing.{inside}
 use Rattle.rules.proofs.Descriptor.{descriptor-sound, descriptor-complete, not-opened, too-many-places, not-closed, no-return, is-descriptor}
 use Rattle.descriptor.specs.declared.descriptors.Descriptor.{Descriptor}
 use Rattle.descriptor.specs.declared.descriptors.Descriptor.the-variants.{Good, Refused}

@@ -2,7 +2,7 @@
 use Prim.Native.Nat.{ℕ, suc, _+_, _-_, _≤_, _<_}
 use mathlib.Core.Path.{_≡_, refl, sym, ap, _∙_}
 use mathlib.Core.Bool.{true, false, _||_, cond}
-use mathlib.Core.List.{List, []}
+use mathlib.Core.List.{List}
 use mathlib.Core.Logic.{⊎-elim}
 use native.Mathlib.Omega.{arith}
 use native.Mathlib.Nat.{zero-add, add-zero, add-assoc}
@@ -12,7 +12,9 @@ use borrow.Author.Tests.{eqb-true}
 use Rattle.values.specs.Kinds.{Kind, int, long, float, double, reference, any, places, placesOf}
 use Rattle.rules.specs.Fetch.{u8}
 use Rattle.rules.specs.Descriptor.{doubleType, floatType, longType, classType, arrayType, slash, semicolon, characterAt, bracketsEnd, fieldEnd, kindOf, parameterKinds, parametersEnd}
-use Rattle.rules.proofs.Characters.{cases, or-true, or-false, inside, character-stands}
+use Rattle.rules.proofs.Check.{cases, or-true, or-false}
+use Rattle.rules.proofs.Standing.{inside}
+use Rattle.rules.proofs.Characters.{character-stands}
 use Rattle.rules.proofs.Names.{nameFrom, name-ended, name-goes-on}
 use Rattle.rules.proofs.Fields.{one-bracket, field-forward}
 use Rattle.rules.proofs.Descriptor.{no-more, kindsAt, fieldsAt, all-parameters, next-field}

@@ -1,82 +1,18 @@
 -- The characters of a name (JVMS 4.4.7, 4.2.2): where the bytes of one stand, the reader gives its size, and where it gives a size, one stands. Assumes nothing.
 use Prim.Native.Nat.{ℕ, zero, suc, _+_, _-_, _*_, _/_, _%_, _≤_, _<_}
-use mathlib.Core.Path.{_≡_, refl, sym, ap, subst, _∙_}
-use mathlib.Core.Bool.{Bool, true, false, _&&_, _||_, cond}
-use mathlib.Core.List.{List, [], _∷_, _++_, append-assoc, append-nil}
-use mathlib.Core.Logic.{_⊎_, inl, inr, ⊎-elim}
+use mathlib.Core.Path.{_≡_, refl, sym, subst, _∙_}
+use mathlib.Core.Bool.{Bool, true, false, _&&_, _||_}
+use mathlib.Core.List.{List, [], _∷_, _++_}
+use mathlib.Core.Logic.{⊎-elim}
 use native.Mathlib.Omega.{arith}
-use native.Mathlib.Nat.{add-zero, add-assoc}
-use native.Mathlib.Numerals.{add-one}
+use native.Mathlib.Nat.{add-assoc}
 use lib.Dec.{leb, eqb}
-use lib.ListN.{length, getD, drop, length-append, List·getD-eq-default}
-use lib.Seq.{drop-cons, drop-drop, drop-append-seam, drop-length, getD-drop}
-use borrow.Author.Tests.{leb-true, leb-false, eqb-true, eqb-false, le-leb, lt-leb, eq-eqb, ne-eqb}
+use lib.ListN.{length, drop}
+use borrow.Author.Tests.{leb-true, leb-false, eqb-true, eqb-false, le-leb, lt-leb, ne-eqb}
 use Rattle.rules.specs.Fetch.{u8}
 use Rattle.rules.specs.Descriptor.{slash, semicolon, encoded, isOfNames, Character, character, continues, isOneByte, isTwoBytes, isThreeBytes, characterSize, characterAt}
-use Rattle.rules.proofs.Check.{and-true}
-
--- ---- a test in a definition
-
-pub cases : {A : Type 0} (P : A → Type 0) (t : Bool) (x y : A) → (t ≡ true → P x) → (t ≡ false → P y) → P (cond t x y)
-cases P true x y h k = h refl
-cases P false x y h k = k refl
-
-pub or-true : (a b : Bool) → (a || b) ≡ true → (a ≡ true) ⊎ (b ≡ true)
-or-true true b e = inl refl
-or-true false b e = inr e
-
-pub or-false : (a b : Bool) → (a || b) ≡ false → (a ≡ false) × (b ≡ false)
-or-false true b e = let z : _≡_ {A = ℕ} 0 1 = cc in absurd (omega arith)
-or-false false b e = (refl, e)
-
-pub not-above : (n : ℕ) → (0 < n → ⊥) → n ≡ 0
-not-above zero h = refl
-not-above (suc n) h = absurd (h (omega arith))
-
--- ---- bytes from an offset on
-
-module _ (d : List ℕ) where
-  pub inside : (at : ℕ) → 0 < u8 d at → at < length d
-  inside at h = go (leb (length d) at) refl
-    where
-      go : (t : Bool) → leb (length d) at ≡ t → at < length d
-      go true e = absurd (omega (arith, List·getD-eq-default d 0 (leb-true (length d) at e)))
-      go false e = leb-false (length d) at e
-
-  pub byte-at : (at : ℕ) (l : List ℕ) → drop at d ≡ l → (i : ℕ) → u8 d (at + i) ≡ u8 l i
-  byte-at at l e i = sym (getD-drop at d i 0) ∙ ap (λ (x : List ℕ). getD x i 0) e
-
-  pub first-byte : (at : ℕ) (l : List ℕ) → drop at d ≡ l → u8 d at ≡ u8 l 0
-  first-byte at l e = rw add-zero at (byte-at at l e 0)
-
-  pub one-byte : (at : ℕ) → at < length d → drop at d ≡ u8 d at ∷ drop (at + 1) d
-  one-byte at h = rw (add-one, drop-cons d at 0)
-
-  pub rest-after : (at : ℕ) (b rest : List ℕ) → drop at d ≡ b ++ rest → drop (at + length b) d ≡ rest
-  rest-after at b rest e = sym (drop-drop (length b) at d) ∙ ap (drop (length b)) e ∙ drop-append-seam b rest
-
--- these bytes stand from an offset on up to an end
-pub record Standing (d : List ℕ) (at : ℕ) (b : List ℕ) (end : ℕ) : Type 0 where
-  pub there : drop at d ≡ b ++ drop end d
-  pub ends : end ≡ at + length b
-  pub within : end ≤ length d
-
-module _ (d : List ℕ) where
-  pub one-stands : (at : ℕ) → 0 < u8 d at → Standing d at (u8 d at ∷ []) (at + 1)
-  one-stands at h = record { there = one-byte d at (inside d at h); ends = omega arith; within = omega (arith, inside d at h) }
-
-  pub byte-stands : (at x : ℕ) → u8 d at ≡ x → 0 < x → Standing d at (x ∷ []) (at + 1)
-  byte-stands at x e h = rw e at (one-stands at (omega arith))
-
-  pub join : {at mid end : ℕ} {b c : List ℕ} → Standing d at b mid → Standing d mid c end → Standing d at (b ++ c) end
-  join {at} {mid} {end} {b} {c} s t = record {
-    there = s .there ∙ ap (λ (x : List ℕ). b ++ x) (t .there) ∙ sym (append-assoc b c (drop end d));
-    ends = omega (arith, s .ends, t .ends, length-append b c);
-    within = t .within;
-  }
-
-  pub to-the-end : {at end : ℕ} {b : List ℕ} → Standing d at b end → end ≡ length d → drop at d ≡ b
-  to-the-end {end = end} {b = b} s e = s .there ∙ ap (λ (n : ℕ). b ++ drop n d) e ∙ rw (drop-length, append-nil)
+use Rattle.rules.proofs.Check.{and-true, or-true, cases}
+use Rattle.rules.proofs.Standing.{first-byte, byte-at, Standing, one-stands, join}
 
 -- ---- the sizes, by the bytes
 
@@ -260,10 +196,10 @@ character-stands d at h = sized .character-there h
 -- neither ; nor / begins a character
 pub not-a-character : (a b c : ℕ) → 0 < characterSize a b c → (eqb a semicolon ≡ false) × (eqb a slash ≡ false)
 unfolding characterSize
-not-a-character a b c h = (ne-eqb a semicolon (λ e. is e h), ne-eqb a slash (λ e. iss e h))
+not-a-character a b c h = (ne-eqb a semicolon (λ e. at-semicolon e h), ne-eqb a slash (λ e. at-slash e h))
   where
-    is : a ≡ semicolon → 0 < characterSize a b c → ⊥
-    is e k = let z : 0 < characterSize semicolon b c = rw e at k in omega arith
+    at-semicolon : a ≡ semicolon → 0 < characterSize a b c → ⊥
+    at-semicolon e k = let z : 0 < characterSize semicolon b c = rw e at k in omega arith
 
-    iss : a ≡ slash → 0 < characterSize a b c → ⊥
-    iss e k = let z : 0 < characterSize slash b c = rw e at k in omega arith
+    at-slash : a ≡ slash → 0 < characterSize a b c → ⊥
+    at-slash e k = let z : 0 < characterSize slash b c = rw e at k in omega arith

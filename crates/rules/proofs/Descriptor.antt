@@ -1,19 +1,18 @@
 -- The method descriptor (JVMS 4.3.3): what is accepted is one, and every one is accepted, with its parameters' kinds and its return type. Assumes nothing.
 use Prim.Native.Nat.{ℕ, zero, suc, _+_, _-_, _≤_, _<_}
 use mathlib.Core.Path.{_≡_, refl, sym, ap, subst, _∙_}
-use mathlib.Core.Bool.{Bool, true, false, cond}
+use mathlib.Core.Bool.{Bool, true, false, _||_}
 use mathlib.Core.List.{List, [], _∷_, _++_, append-assoc, append-nil}
 use native.Mathlib.Omega.{arith}
-use native.Mathlib.Nat.{sub-zero}
-use lib.Dec.{leb, eqb}
+use lib.Dec.{eqb}
 use lib.ListN.{length, drop, length-append, length-drop}
-use borrow.Author.Tests.{leb-true, leb-false, eqb-true, eqb-false, le-leb, lt-leb, eq-eqb, ne-eqb}
-use Rattle.values.specs.Kinds.{Kind, places, placesOf}
+use borrow.Author.Tests.{leb-true, eqb-true, eqb-false, le-leb, lt-leb, eq-eqb, ne-eqb}
+use Rattle.values.specs.Kinds.{Kind, placesOf}
 use Rattle.rules.specs.Check.{Check, passed, refused, _else_, _>>_}
 use Rattle.rules.specs.Fetch.{u8}
-use Rattle.rules.specs.Descriptor.{classType, voidType, arrayType, opening, closing, FieldType, Parameters, no-parameter, next-parameter, returnLetter, Return, returns-field, returns-void, MethodDescriptor, descriptor, isBase, fieldEnd, kindOf, kindsFrom, fieldsEnd, parameterKinds, parametersEnd, returnEnd, returnType, descriptorCheck}
+use Rattle.rules.specs.Descriptor.{classType, voidType, arrayType, opening, closing, FieldType, Parameters, no-parameter, next-parameter, isBase, returnLetter, Return, returns-field, returns-void, MethodDescriptor, descriptor, fieldEnd, kindOf, kindsFrom, fieldsEnd, parameterKinds, parametersEnd, returnEnd, returnType, descriptorCheck}
 use Rattle.rules.proofs.Check.{first-passed, last-passed, Any, asked-numbered, last-numbered, refused-numbered}
-use Rattle.rules.proofs.Characters.{cases, inside, first-byte, one-byte, rest-after, Standing, byte-stands, join, to-the-end}
+use Rattle.rules.proofs.Standing.{inside, first-byte, rest-after, Standing, byte-stands, join, to-the-end}
 use Rattle.rules.proofs.Fields.{field-bytes, field-stands, field-forward, field-past, no-field, field-read}
 
 -- ---- parameter by parameter: as many turns as there are bytes left are enough
@@ -235,16 +234,29 @@ module _ (d : List ℕ) where
 pub few-places : (d : List ℕ) → descriptorCheck d ≡ passed tt → placesOf (parameterKinds d) ≤ 255
 few-places d e = accepted d e .few
 
-pub return-above : (d : List ℕ) → descriptorCheck d ≡ passed tt → 0 < returnType d
-return-above d e = letter (u8 d (parametersEnd d + 1)) refl
+-- B C D F I J L S V Z
+abbrev pub isReturnType : ℕ → Bool
+isReturnType t = isBase t || eqb t classType || eqb t voidType
+
+pub return-known : (d : List ℕ) → descriptorCheck d ≡ passed tt → isReturnType (returnType d) ≡ true
+return-known d e = go (parametersEnd d + 1) (accepted d e .returned) _ _ _ _ refl refl refl refl
   where
-    letter : (c : ℕ) → u8 d (parametersEnd d + 1) ≡ c → 0 < returnLetter c
-    letter zero f =
-        let at : ℕ = parametersEnd d + 1 in
-        let none : fieldEnd d at ≡ 0 = no-field d at (rw f) (rw f) (rw f) in
-        let field : returnEnd d at ≡ fieldEnd d at = return-field d at (λ v. omega arith) in
-        absurd (omega (arith, accepted d e .returned, inside d 0 (omega (arith, accepted d e .opened))))
-    letter (suc c) f = cases (λ (n : ℕ). 0 < n) (eqb (suc c) arrayType) classType (suc c) (λ _. omega arith) (λ _. omega arith)
+    go : (at : ℕ) → returnEnd d at ≡ length d → (a b l v : Bool) → eqb (u8 d at) arrayType ≡ a → isBase (u8 d at) ≡ b → eqb (u8 d at) classType ≡ l → eqb (u8 d at) voidType ≡ v
+        → isReturnType (returnLetter (u8 d at)) ≡ true
+    go at r true b l v f g h k = rw f
+    go at r false true l v f g h k = rw (f, g)
+    go at r false false true v f g h k = rw (f, g, h)
+    go at r false false false true f g h k = rw (f, g, h, k)
+    go at r false false false false f g h k =
+        let none : returnEnd d at ≡ 0 = return-field d at (eqb-false (u8 d at) voidType k) ∙ no-field d at g h f in
+        absurd (omega (arith, inside d 0 (omega (arith, accepted d e .opened))))
+
+pub return-above : (d : List ℕ) → descriptorCheck d ≡ passed tt → 0 < returnType d
+return-above d e = go (returnType d) (return-known d e)
+  where
+    go : (t : ℕ) → isReturnType t ≡ true → 0 < t
+    go zero f = let z : _≡_ {A = ℕ} 0 1 = cc in absurd (omega arith)
+    go (suc t) f = omega arith
 
 is31 : ℕ → Type 0
 is31 n = n ≡ 31

@@ -1,18 +1,19 @@
 -- A field type (JVMS 4.3.2): one stands where the reader finds an end, and the reader finds the end of each. Assumes nothing.
 use Prim.Native.Nat.{ℕ, zero, suc, _+_, _-_, _≤_, _<_}
-use mathlib.Core.Path.{_≡_, refl, sym, ap, subst, _∙_}
-use mathlib.Core.Bool.{Bool, true, false, _||_, cond}
+use mathlib.Core.Path.{_≡_, refl, ap, _∙_}
+use mathlib.Core.Bool.{true, false}
 use mathlib.Core.List.{List, [], _∷_, _++_, append-assoc}
 use mathlib.Core.Logic.{⊎-elim}
 use native.Mathlib.Omega.{arith}
-use lib.Dec.{leb, eqb}
+use lib.Dec.{eqb}
 use lib.ListN.{length, drop, length-append}
-use borrow.Author.Tests.{leb-true, leb-false, eqb-true, eqb-false, eq-eqb, ne-eqb}
-use Rattle.values.specs.Kinds.{Kind, int, long, float, double, reference}
+use borrow.Author.Tests.{eqb-true, eq-eqb}
+use Rattle.values.specs.Kinds.{Kind}
 use Rattle.rules.specs.Fetch.{u8}
 use Rattle.rules.specs.Descriptor.{byteType, charType, doubleType, floatType, intType, longType, classType, shortType, booleanType, arrayType, semicolon, ClassName, BaseType, B-byte, C-char, D-double, F-float, I-int, J-long, S-short, Z-boolean, FieldType, base-type, class-type, array-type, nameEnd, bracketsEnd, isBase, elementEnd, fieldEnd, kindOf}
-use Rattle.rules.proofs.Characters.{cases, or-true, not-above, inside, first-byte, rest-after, Standing, one-stands, byte-stands, join}
-use Rattle.rules.proofs.Names.{name-stands, name-enough, nameFrom, name-read}
+use Rattle.rules.proofs.Check.{cases, or-true}
+use Rattle.rules.proofs.Standing.{not-above, inside, first-byte, rest-after, Standing, one-stands, byte-stands, join}
+use Rattle.rules.proofs.Names.{name-stands, name-enough, name-read}
 
 -- ---- the base types
 

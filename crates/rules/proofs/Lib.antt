@@ -11,6 +11,7 @@ pub mod Lawful
 pub mod Run
 pub mod History
 pub mod Sheet
+pub mod Standing
 pub mod Characters
 pub mod Names
 pub mod Fields
@@ -24,5 +25,6 @@ pub mod FromSheet
 pub mod Replay
 -- Examples, which only the checker reads
 mod Examples
+mod Descriptors
 mod Shapes
 mod Tried

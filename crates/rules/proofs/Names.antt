@@ -4,12 +4,14 @@ use mathlib.Core.Path.{_≡_, refl, sym, ap, subst, _∙_}
 use mathlib.Core.Bool.{Bool, true, false, cond}
 use mathlib.Core.List.{List, [], _∷_, _++_, append-assoc}
 use native.Mathlib.Omega.{arith}
-use lib.Dec.{leb, eqb}
+use lib.Dec.{eqb}
 use lib.ListN.{length, drop, length-append}
-use borrow.Author.Tests.{leb-true, leb-false, eqb-true, eqb-false, eq-eqb, ne-eqb}
+use borrow.Author.Tests.{eqb-true, eqb-false, eq-eqb, ne-eqb}
 use Rattle.rules.specs.Fetch.{u8}
 use Rattle.rules.specs.Descriptor.{slash, semicolon, Character, UnqualifiedName, last-character, next-character, ClassName, last-name, next-name, characterAt, nameEnd}
-use Rattle.rules.proofs.Characters.{cases, not-above, inside, first-byte, rest-after, Standing, byte-stands, join, character-bytes, character-read, character-stands, not-a-character}
+use Rattle.rules.proofs.Check.{cases}
+use Rattle.rules.proofs.Standing.{not-above, first-byte, rest-after, Standing, byte-stands, join}
+use Rattle.rules.proofs.Characters.{character-bytes, character-read, character-stands, not-a-character}
 
 -- ---- whatever is read is a name
 

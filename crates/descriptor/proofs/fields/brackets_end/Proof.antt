@@ -6,7 +6,7 @@ use lib.ListN.{length}
 use denote.Ref.{now}
 use borrow.Author.Needs.{needs}
 use borrow.Author.Tests.{ne-eqb}
-use Rattle.rules.specs.Descriptor.{arrayType, bracketsEnd}
+use Rattle.rules.specs.Descriptor.{bracketsEnd}
 use Rattle.rules.proofs.Fields.{no-bracket}
 use Rattle.descriptor.proofs.Turns.{bracket-within, bracket-passed, brackets-done}
 use Rattle.descriptor.proofs.fields.brackets_end.Statement.{statement}

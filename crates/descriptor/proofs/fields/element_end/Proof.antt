@@ -3,7 +3,7 @@ use native.Mathlib.Omega.{arith}
 use denote.Ref.{now}
 use borrow.Author.Tests.{eq-eqb, ne-eqb}
 use Rattle.rules.specs.Descriptor.{elementEnd}
-use Rattle.rules.proofs.Characters.{inside}
+use Rattle.rules.proofs.Standing.{inside}
 use borrow.Author.Needs.{needs}
 use Rattle.descriptor.proofs.fields.element_end.Statement.{statement}
 use Rattle.descriptor.proofs.fields.element_end.Tie as tie
