@@ -1,7 +1,8 @@
 -- What a row of questions that is passed says, and what holds of what passes it. Assumes nothing.
 use Prim.Native.Nat.{ℕ}
 use mathlib.Core.Path.{_≡_, refl}
-use mathlib.Core.Bool.{Bool, true, false, _&&_, cond}
+use mathlib.Core.Bool.{Bool, true, false, _&&_, _||_, cond}
+use mathlib.Core.Logic.{_⊎_, inl, inr}
 use native.Mathlib.Omega.{arith}
 use Rattle.rules.specs.Check.{Check, passed, refused, _else_, _>>=_, _>>_, isPassed}
 
@@ -33,6 +34,19 @@ is-passed (refused n) e = let z : _≡_ {A = ℕ} 0 1 = cc in absurd (omega arit
 pub and-true : (a b : Bool) → (a && b) ≡ true → (a ≡ true) × (b ≡ true)
 and-true true b e = (refl, e)
 and-true false b e = let z : _≡_ {A = ℕ} 0 1 = cc in absurd (omega arith)
+
+pub or-true : (a b : Bool) → (a || b) ≡ true → (a ≡ true) ⊎ (b ≡ true)
+or-true true b e = inl refl
+or-true false b e = inr e
+
+pub or-false : (a b : Bool) → (a || b) ≡ false → (a ≡ false) × (b ≡ false)
+or-false true b e = let z : _≡_ {A = ℕ} 0 1 = cc in absurd (omega arith)
+or-false false b e = (refl, e)
+
+-- a case split on a test in a definition
+pub cases : {A : Type 0} (P : A → Type 0) (t : Bool) (x y : A) → (t ≡ true → P x) → (t ≡ false → P y) → P (cond t x y)
+cases P true x y h k = h refl
+cases P false x y h k = k refl
 
 pub bind-same : {A B : Type 0} (y : Check B) (f g : B → Check A) → ((b : B) → f b ≡ g b) → (y >>= f) ≡ (y >>= g)
 unfolding _>>=_

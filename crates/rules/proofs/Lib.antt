@@ -12,6 +12,11 @@ pub mod Lawful
 pub mod Run
 pub mod History
 pub mod Sheet
+pub mod Standing
+pub mod Characters
+pub mod Names
+pub mod Fields
+pub mod Descriptor
 pub mod AcceptedLoad
 pub mod Pasted
 pub mod Scratch
@@ -21,5 +26,6 @@ pub mod FromSheet
 pub mod Replay
 -- Examples, which only the checker reads
 mod Examples
+mod Descriptors
 mod Shapes
 mod Tried

@@ -1,0 +1,3 @@
+-- Laws for this crate's functions
+mod Turns
+mod Promise

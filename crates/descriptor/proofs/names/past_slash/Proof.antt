@@ -1,0 +1,20 @@
+-- `past_slash` meets its contract. Assumes nothing.
+use borrow.Author.Tests.{eq-eqb, ne-eqb}
+use borrow.Author.Needs.{needs}
+use Rattle.descriptor.proofs.names.past_slash.Statement.{statement}
+use Rattle.descriptor.proofs.names.past_slash.Tie as tie
+
+read-code-u8-requires : tie.Need-read-code-u8-requires
+read-code-u8-requires c κs = search needs
+
+add-result : tie.Need-add-result
+add-result c = search needs
+
+returns : tie.Need-returns
+returns c = simp (← c .before .read-code-u8 .ensures, eq-eqb _ _ (c .if1 .taken))
+
+returns-2 : tie.Need-returns-2
+returns-2 c = simp (← c .before .read-code-u8 .ensures, ne-eqb _ _ (c .if1 .left))
+
+pub past-slash-spec : {M : Type 1} → statement M
+past-slash-spec = tie.close (tie.spec read-code-u8-requires add-result returns returns-2)
