@@ -26,6 +26,5 @@ pub mod FromSheet
 pub mod Replay
 -- Examples, which only the checker reads
 mod Examples
-mod Descriptors
 mod Shapes
 mod Tried

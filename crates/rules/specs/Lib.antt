@@ -7,7 +7,6 @@ pub mod Descriptor
 pub mod Returns
 pub mod Step
 pub mod Run
-pub mod Descriptor
 pub mod Sheet
 pub mod History
 pub mod PlainWalk
