@@ -67,7 +67,7 @@ fn element_end(d: &[u8], at: usize) -> usize
 }
 
 // The offset after a field type; 0 where none begins.
-pub fn field_end(d: &[u8], at: usize) -> usize
+pub(crate) fn field_end(d: &[u8], at: usize) -> usize
     requires { ⌜ at ≤ length (now d) ⌝ }
     ensures { λ r. ⌜ r ≡ fieldEnd (now (d .entry)) at ⌝ }
 {
@@ -75,7 +75,7 @@ pub fn field_end(d: &[u8], at: usize) -> usize
 }
 
 // The places of a field type, by its first character: a long and a double take two.
-pub fn places_of(first: u8) -> u32
+pub(crate) fn places_of(first: u8) -> u32
     ensures { λ r. ⌜ r ≡ places (kindOf first) ⌝ }
 {
     if (first == LONG) | (first == DOUBLE) {

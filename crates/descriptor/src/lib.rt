@@ -6,5 +6,3 @@ mod names;
 
 pub use descriptors::Descriptor;
 pub use descriptors::read_descriptor;
-pub use fields::field_end;
-pub use fields::places_of;

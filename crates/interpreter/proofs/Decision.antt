@@ -7,7 +7,6 @@ use lib.Dec.{eqb}
 use lib.IntN.{ℤ}
 use lib.ListN.{length, take}
 use borrow.Author.Tests.{eqb-true}
-use Rattle.values.specs.declared.Value.{Value}
 use Rattle.values.specs.Kinds.{int, placesOf}
 use Rattle.values.specs.Integers.{signed, low}
 use Rattle.values.specs.Words.{meaning}
@@ -18,7 +17,6 @@ use Rattle.rules.specs.Check.{Check, passed, refused, _>>=_}
 use Rattle.rules.specs.Forms.{Rule, Operand, Result, offsetFor, pushes, stores, divides, branches, returns}
 use Rattle.rules.specs.Instructions.{rowOf}
 use Rattle.rules.specs.Fetch.{Instruction, operands, fetched}
-use Rattle.rules.specs.Returns.{returned}
 use Rattle.rules.specs.Questions.{Method, popped, pushed, frameCheck, needsCheck}
 use Rattle.rules.specs.Step.{frame, base, wordsAt, update, inside, ordinary, following, target, outcome, decision, decideOf}
 use Rattle.rules.proofs.Rows.{works}
@@ -34,7 +32,7 @@ use Rattle.effects.specs.Families.{sharedOpcodes}
 use Rattle.effects.proofs.OwnRow.{own-effect, shared-listed}
 use Rattle.frame.proofs.Needs.{Stands, pushed-in, locals-in}
 use Rattle.interpreter.specs.declared.finishing.Located.{Located}
-use Rattle.interpreter.specs.Stages.{locatedOf, ordinaryTo, offsetAt, branchOf, returnOf, finishOf}
+use Rattle.interpreter.specs.Stages.{locatedOf, ordinaryTo, offsetAt, branchOf, finishOf}
 use Rattle.interpreter.proofs.Results.{doesFour, isStore, row-stores, offsetBy, offsetOf, row-offset, row-table, row-pairs}
 
 -- ---- what a result comes to
@@ -46,14 +44,6 @@ module _ (l : Method) (s : State) (i : Instruction) where
     where
       go : (x : Check ℕ) → decision (x >>= λ pc. passed (Decision.Ordinary (update pc (s .depth - popped i + pushed i) at n ws))) ≡ ordinaryTo (targetOf x) (s .depth - popped i + pushed i) at n (six ws)
       go (passed pc) = refl
-      go (refused n) = refl
-
-  returned-is : (t : ℕ) (v : Value) → returnOf (returned t v) ≡ decision (returned t v >>= λ r. passed (Decision.Return r))
-  unfolding _>>=_
-  returned-is t v = go (returned t v)
-    where
-      go : (x : Check Value) → returnOf x ≡ decision (x >>= λ r. passed (Decision.Return r))
-      go (passed r) = refl
       go (refused n) = refl
 
   -- a located instruction is this one, if it stores where `store` says and branches by z on a key
@@ -75,7 +65,7 @@ module _ (l : Method) (s : State) (i : Instruction) where
         go true = refl
         go false = rw (h .next, h .deep, h .first, h .many) (sym (ordinary-is (following s i) (base s i) (pushed i) ws))
     finished-by (branches t y) h = rw (h .next, h .deep, h .offset) (sym (ordinary-is (cond t (target s y) (following s i)) 0 0 []))
-    finished-by (returns v) h = returned-is (s .«return_type») v
+    finished-by (returns v) h = refl
 
 -- ---- an instruction that is fetched
 

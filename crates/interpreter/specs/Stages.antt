@@ -6,15 +6,12 @@ use mathlib.Core.List.{List}
 use lib.Dec.{eqb}
 use lib.IntN.{ℤ, pos, _+ℤ_}
 use lib.ListN.{getD}
-use Rattle.values.specs.declared.Value.{Value}
 use Rattle.values.specs.Kinds.{int, long, float, double}
 use Rattle.values.specs.Words.{meaning}
 use Rattle.rules.specs.declared.Decision.{Decision}
 use Rattle.rules.specs.declared.Decision.the-variants as Decision
-use Rattle.rules.specs.Check.{Check, passed, refused}
-use Rattle.rules.specs.Returns.{returned}
 use Rattle.rules.specs.Questions.{Method}
-use Rattle.rules.specs.Step.{firstPlace, inside}
+use Rattle.rules.specs.Step.{firstPlace, inside, returnOf, decision}
 use Rattle.operands.specs.declared.jump.Target.{Target}
 use Rattle.operands.specs.declared.jump.Target.the-variants as Target
 use Rattle.operands.specs.Target.{targetOf}
@@ -97,16 +94,11 @@ unfoldable pub branchOf : List ℕ → ℕ → Located → ℕ → Bool → Deci
 branchOf code pc i key taken =
     ordinaryTo (targetOf (inside code (cond taken (pos pc +ℤ offsetAt code pc (i .op) (i .constant) key) (pos (i .next))))) (i .depth) 0 0 noWords
 
--- by the answer to question 32
-abbrev pub returnOf : Check Value → Decision
-returnOf (passed v) = Decision.Return v
-returnOf (refused n) = Decision.Refused n
-
 unfoldable pub finishOf : List ℕ → ℕ → ℕ → Located → ℕ → Effect → Decision
 finishOf code pc t i key (Effect.Words w) = ordinaryTo (targetOf (inside code (pos (i .next)))) (i .depth) (i .first) (i .many) w
 finishOf code pc t i key Effect.Throw = Decision.Throw
 finishOf code pc t i key (Effect.Branch taken) = branchOf code pc i key taken
-finishOf code pc t i key (Effect.Return v) = returnOf (returned t v)
+finishOf code pc t i key (Effect.Return v) = decision (returnOf t v)
 
 -- ---- both
 

@@ -1,5 +1,4 @@
 // What a step comes to, from what its instruction does: the next offset, with question 10, and where the words go; or what a return gives back.
-use crate::returning::give_back;
 use effects::Effect;
 use effects::Six;
 use instructions::locals_in;
@@ -11,6 +10,7 @@ use operands::inside;
 use operands::jump_relative;
 use operands::lookup_offset;
 use operands::table_offset;
+use returns::give_back;
 use rules::Decision;
 use rules::Update;
 ghost use mathlib.Core.Path.{_≡_};

@@ -3,7 +3,6 @@ mod advancing;
 mod deciding;
 mod finishing;
 mod reading;
-mod returning;
 mod running;
 mod stepping;
 

@@ -5,7 +5,7 @@ use mathlib.Core.Bool.{Bool, true, false, cond}
 use mathlib.Core.List.{List}
 use native.Mathlib.Omega.{arith}
 use lib.Dec.{leb}
-use lib.ListN.{length, take, drop, set, length-set, length-append, length-drop, length-replicate}
+use lib.ListN.{length, take, drop, length-set, length-append, length-drop, length-replicate}
 use lib.Seq.{length-take-le, take-at, drop-at}
 use borrow.Author.Tests.{leb-true, le-leb, eqb-true}
 use Rattle.rules.specs.declared.Reading.{Reading}
@@ -13,10 +13,10 @@ use Rattle.rules.specs.declared.State.{State}
 use Rattle.rules.specs.declared.Load.the-variants as Load
 use Rattle.rules.specs.declared.Loaded.{Loaded}
 use Rattle.rules.specs.Check.{Check, passed, refused, _>>=_, _>>_}
-use Rattle.rules.specs.Fetch.{u8, u32}
+use Rattle.rules.specs.Fetch.{u8}
 use Rattle.rules.specs.Questions.{method}
 use Rattle.rules.specs.Step.{frame}
-use Rattle.rules.specs.Sheet.{recordEnd, bodyAt, poolIndex, isWide, sheetCheck, memoryCheck, Pool, withWords, withValue, poolFrom, loadedPool, argumentsFrom, loadedFrame, loadedSlots, loadedState, acceptedLoad, loadBy, loadOf, codeOf}
+use Rattle.rules.specs.Sheet.{recordEnd, isWide, sheetCheck, memoryCheck, Pool, withWords, withValue, poolFrom, loadedPool, argumentsFrom, loadedFrame, loadedSlots, loadedState, acceptedLoad, loadBy, loadOf, codeOf}
 use Rattle.rules.proofs.Check.{first-passed, last-passed}
 use Rattle.rules.proofs.Questions.{Framed}
 use Rattle.rules.proofs.Sheet.{Within, sheet-within, code-near, sheet-numbered, memory-above, load-accepted}

@@ -11,7 +11,8 @@ use Rattle.values.specs.Kinds.{Kind, placesOf}
 use Rattle.rules.specs.Check.{Check, passed, refused, _else_, _>>_}
 use Rattle.rules.specs.Fetch.{u8}
 use Rattle.rules.specs.Descriptor.{classType, voidType, arrayType, opening, closing, FieldType, Parameters, no-parameter, next-parameter, isBase, returnLetter, Return, returns-field, returns-void, MethodDescriptor, descriptor, fieldEnd, kindOf, kindsFrom, fieldsEnd, parameterKinds, parametersEnd, returnEnd, returnType, descriptorCheck}
-use Rattle.rules.proofs.Check.{first-passed, last-passed, Any, asked-numbered, last-numbered, refused-numbered}
+use Rattle.rules.specs.Returns.{isReturnType}
+use Rattle.rules.proofs.Check.{first-passed, last-passed}
 use Rattle.rules.proofs.Standing.{inside, first-byte, rest-after, Standing, byte-stands, join, to-the-end}
 use Rattle.rules.proofs.Fields.{field-bytes, field-stands, field-forward, field-past, no-field, field-read}
 
@@ -229,16 +230,10 @@ module _ (d : List ℕ) where
         unfolding descriptorCheck _else_ _>>_
         is-descriptor h = rw (eq-eqb _ _ opened, le-leb _ _ few, eq-eqb _ _ closed, eq-eqb _ _ h)
 
--- ---- what every descriptor has, and the number of a bad one
-
-pub few-places : (d : List ℕ) → descriptorCheck d ≡ passed tt → placesOf (parameterKinds d) ≤ 255
-few-places d e = accepted d e .few
-
--- B C D F I J L S V Z
-abbrev pub isReturnType : ℕ → Bool
-isReturnType t = isBase t || eqb t classType || eqb t voidType
+-- ---- what a state has of a good one is a return type, and so not 0
 
 pub return-known : (d : List ℕ) → descriptorCheck d ≡ passed tt → isReturnType (returnType d) ≡ true
+unfolding isReturnType
 return-known d e = go (parametersEnd d + 1) (accepted d e .returned) _ _ _ _ refl refl refl refl
   where
     go : (at : ℕ) → returnEnd d at ≡ length d → (a b l v : Bool) → eqb (u8 d at) arrayType ≡ a → isBase (u8 d at) ≡ b → eqb (u8 d at) classType ≡ l → eqb (u8 d at) voidType ≡ v
@@ -252,16 +247,9 @@ return-known d e = go (parametersEnd d + 1) (accepted d e .returned) _ _ _ _ ref
         absurd (omega (arith, inside d 0 (omega (arith, accepted d e .opened))))
 
 pub return-above : (d : List ℕ) → descriptorCheck d ≡ passed tt → 0 < returnType d
+unfolding isReturnType
 return-above d e = go (returnType d) (return-known d e)
   where
     go : (t : ℕ) → isReturnType t ≡ true → 0 < t
     go zero f = let z : _≡_ {A = ℕ} 0 1 = cc in absurd (omega arith)
     go (suc t) f = omega arith
-
-is31 : ℕ → Type 0
-is31 n = n ≡ 31
-
-pub check-31 : (d : List ℕ) (k : ℕ) → descriptorCheck d ≡ refused k → k ≡ 31
-unfolding descriptorCheck is31
-check-31 d k e =
-    refused-numbered is31 Any (descriptorCheck d) k (asked-numbered is31 Any _ 31 _ refl (asked-numbered is31 Any _ 31 _ refl (asked-numbered is31 Any _ 31 _ refl (last-numbered is31 _ 31 refl)))) e

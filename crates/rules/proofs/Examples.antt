@@ -16,7 +16,7 @@ use Rattle.rules.specs.Instructions.{rowOf}
 use Rattle.rules.specs.Fetch.{wideCheck, tableCheck, lookupCheck, offsetsFrom, pairsFrom, fetched, aligned}
 use Rattle.rules.specs.Returns.{isReturnType, narrowed, returned}
 use Rattle.rules.specs.Questions.{Method, method, frameCheck, needsCheck}
-use Rattle.rules.specs.Step.{decideFrame, decideOf, Machine, coreMachine}
+use Rattle.rules.specs.Step.{decideFrame, decideOf, coreMachine}
 use Rattle.rules.specs.Run.{Ran, runFrom, runOf}
 
 -- ---- the step and the run on given lists and numbers, open to computation

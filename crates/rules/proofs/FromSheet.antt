@@ -1,30 +1,28 @@
 -- What an accepted load leaves is what the sheet gives, place by place, and depends on the sheet and the lengths alone; and so DEMAND 3 from any accepted load.
 -- Assumes nothing.
-use Prim.Native.Nat.{ℕ, zero, suc, _+_, _-_, _*_, _<_, _≤_}
+use Prim.Native.Nat.{ℕ, zero, suc, _+_, _-_, _*_, _<_}
 use mathlib.Core.Path.{_≡_, refl, sym, ap, subst, _∙_}
 use mathlib.Core.Bool.{Bool, true, false, cond}
-use mathlib.Core.List.{List, [], _∷_, _++_}
+use mathlib.Core.List.{List, _++_}
 use native.Mathlib.Omega.{arith}
 use native.Mathlib.Nat.{add-zero}
-use native.Mathlib.Numerals.{add-one}
-use borrow.Author.Tests.{eqb-true, eqb-false, ltb-true, ltb-false, lt-ltb, le-ltb}
+use borrow.Author.Tests.{eqb-true, eqb-false, ltb-true, ltb-false}
 use lib.Dec.{leb, eqb, ltb}
 use lib.ListN.{length, take, drop, set, getD, replicate, length-set, length-append, length-replicate, getD-replicate, List·getD-append}
 use lib.Seq.{getD-set-same, getD-set-other, getD-append-add, ext-getD}
 use Rattle.rules.specs.declared.Load.the-variants.{Accepted}
 use Rattle.rules.specs.declared.Reading.{Reading}
-use Rattle.rules.specs.declared.State.{State}
 use Rattle.rules.specs.Check.{passed}
 use Rattle.rules.specs.Fetch.{u8, u32}
 use Rattle.rules.specs.Questions.{Method, method}
-use Rattle.rules.specs.Step.{Decider, Machine}
-use Rattle.rules.specs.Sheet.{recordEnd, poolIndex, poolTag, isWide, sheetCheck, memoryCheck, Pool, withKind, withWords, withValue, poolFrom, poolStart, poolEnd, loadedPool, argumentsFrom, loadedFrame, loadedSlots, loadedState, acceptedLoad, AfterLoad, loadOf, codeOf}
+use Rattle.rules.specs.Step.{Decider, machineBy}
+use Rattle.rules.specs.Sheet.{recordEnd, poolIndex, poolTag, isWide, sheetCheck, memoryCheck, Pool, withWords, withValue, poolFrom, poolStart, poolEnd, loadedPool, argumentsFrom, loadedFrame, loadedSlots, loadedState, acceptedLoad, AfterLoad, loadOf, codeOf}
 use Rattle.rules.specs.PlainWalk.{Stage, stageOf, PlainWalk, Press}
 use Rattle.rules.specs.Walk.{Walked, walkOf, Demand3}
 use Rattle.rules.specs.FromSheet.{Lengths, placesFrom, placesBy, kindBy, wordBy, throughRecords, inPool, sheetMethod, argumentOrZero, stage0, plainWalkBy, readingOf, plainWalkOf}
 use Rattle.rules.specs.Presses.{loadedMethod, plainWalkIn}
 use Rattle.rules.proofs.Sheet.{load-accepted}
-use Rattle.rules.proofs.AcceptedLoad.{length-words, pool-kinds, pool-words, length-arguments, code-is, frame-length, frame-is, loaded-framed, Read, was-read}
+use Rattle.rules.proofs.AcceptedLoad.{length-words, pool-kinds, pool-words, length-arguments, code-is, frame-length, frame-is, loaded-framed, was-read}
 use Rattle.rules.proofs.Lawful.{Lawful}
 use Rattle.rules.proofs.Walk.{walkFrom, whole-list}
 
@@ -166,13 +164,13 @@ module _ (sheet slots kinds words : List ℕ) (bytes : (i : ℕ) → u8 sheet i 
       ∙ places-are (loadedFrame sheet p) (argumentOrZero sheet p) (frame-at sheet p)
       ∙ ap (λ (n : ℕ). placesBy n (argumentOrZero sheet p)) (frame-length sheet slots kinds words bytes p read fits))
 
-  module _ (rules : Method → Decider) (law : (l : Method) → Lawful (record { runs = l; decides = rules l })) where
+  module _ (rules : Method → Decider) (law : (l : Method) → Lawful (machineBy rules l)) where
     -- the plain walk on these slots, by its method and stage 0
     abbrev build : List ℕ → Method → Stage → PlainWalk
-    build log l t = record { machine = record { runs = l; decides = rules l }; slots = length (loadedSlots sheet p slots); log = length log; state = loadedState (p .«max_stack») (p .«max_locals») (p .«return_type»); first = t }
+    build log l t = record { machine = machineBy rules l; slots = length (loadedSlots sheet p slots); log = length log; state = loadedState (p .«max_stack») (p .«max_locals») (p .«return_type»); first = t }
 
     walk-given : (log : List ℕ)
-        → walkFrom (record { runs = method (codeOf sheet (acceptedLoad p)) (loadedPool sheet p kinds words .kinds) (loadedPool sheet p kinds words .words); decides = rules (method (codeOf sheet (acceptedLoad p)) (loadedPool sheet p kinds words .kinds) (loadedPool sheet p kinds words .words)) })
+        → walkFrom (machineBy rules (method (codeOf sheet (acceptedLoad p)) (loadedPool sheet p kinds words .kinds) (loadedPool sheet p kinds words .words)))
         (loadedState (p .«max_stack») (p .«max_locals») (p .«return_type»)) (loadedSlots sheet p slots) log
         ≡ plainWalkOf rules sheet (lengths (length log))
     walk-given log =
@@ -183,17 +181,17 @@ module _ (sheet slots kinds words : List ℕ) (bytes : (i : ℕ) → u8 sheet i 
     by-reading : (log : List ℕ) (presses : List Press) (m : AfterLoad)
         → record { loaded = acceptedLoad p; slots = loadedSlots sheet p slots; kinds = loadedPool sheet p kinds words .kinds; words = loadedPool sheet p kinds words .words } ≡ m
         → Demand3 (plainWalkIn rules sheet (loadedMethod sheet m) (m .slots) log) (m .slots) presses
-        (walkOf (record { runs = loadedMethod sheet m; decides = rules (loadedMethod sheet m) }) presses (m .loaded .state) (m .slots) log)
+        (walkOf (machineBy rules (loadedMethod sheet m)) presses (m .loaded .state) (m .slots) log)
     by-reading log presses m e =
         rw (← e) (rewalked _ _ _ (walk-given log)
         (whole-list _ (law _) _ (loadedSlots sheet p slots) log (loaded-framed sheet slots kinds words bytes p read fits) refl presses))
 
 -- DEMAND 3, of any lawful rules: for every sheet that is accepted, whatever the lent memory held, every log and every list of presses
-pub demand3 : (rules : Method → Decider) → ((l : Method) → Lawful (record { runs = l; decides = rules l }))
+pub demand3 : (rules : Method → Decider) → ((l : Method) → Lawful (machineBy rules l))
     → (sheet slots kinds words : List ℕ) → ((i : ℕ) → u8 sheet i < 256) → loadOf sheet slots kinds words .loaded .answer ≡ Accepted → (log : List ℕ) (presses : List Press)
     → let m = loadOf sheet slots kinds words in
     Demand3 (plainWalkIn rules sheet (loadedMethod sheet m) (m .slots) log) (m .slots) presses
-    (walkOf (record { runs = loadedMethod sheet m; decides = rules (loadedMethod sheet m) }) presses (m .loaded .state) (m .slots) log)
+    (walkOf (machineBy rules (loadedMethod sheet m)) presses (m .loaded .state) (m .slots) log)
 demand3 rules law sheet slots kinds words bytes accepted log presses =
     let r = was-read sheet slots kinds words accepted in
     by-reading sheet slots kinds words bytes (r .reading) (r .read) (r .fits) rules law log presses (loadOf sheet slots kinds words)

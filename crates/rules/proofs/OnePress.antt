@@ -1,6 +1,6 @@
 -- One press keeps the walk's invariant, of any lawful machine: the state stands at stage net, and the log's first net entries undo the steps that led there.
 -- Assumes nothing.
-use Prim.Native.Nat.{ℕ, zero, suc, _+_, _-_, _*_, _≤_, _<_}
+use Prim.Native.Nat.{ℕ, zero, suc, _+_, _-_, _*_, _≤_, _<_, max}
 use mathlib.Core.Path.{_≡_, refl, sym, ap, _∙_}
 use mathlib.Core.Bool.{Bool, true, false, _||_, cond}
 use mathlib.Core.Option.{Option, none, some}
@@ -10,7 +10,7 @@ use native.Mathlib.Nat.{add-zero, zero-add}
 use native.Mathlib.Numerals.{add-one}
 use borrow.Author.Tests.{ltb-true, leb-true, le-leb, lt-ltb, ltb-false}
 use lib.ListN.{length, getD, take, drop, length-drop}
-use lib.Seq.{paste, take-paste, length-paste, length-take-le}
+use lib.Seq.{paste, take-paste, length-paste}
 use lib.Dec.{ltb, leb}
 use Rattle.rules.specs.declared.State.{State}
 use Rattle.rules.specs.declared.Update.{Update}
@@ -19,11 +19,11 @@ use Rattle.rules.specs.declared.Decision.the-variants as Decision
 use Rattle.rules.specs.declared.Pressed.{Pressed}
 use Rattle.rules.specs.declared.Pressed.the-variants.{Granted, Return, Throw, Refused}
 use Rattle.rules.specs.Check.{passed, refused, _else_, _>>_}
-use Rattle.rules.specs.Questions.{Method, frameSize, frameCheck}
-use Rattle.rules.specs.Step.{frame, beyond, Decided, Machine, decideOn, moved, updateWords, written, zeroed, cleared}
+use Rattle.rules.specs.Questions.{frameSize, frameCheck}
+use Rattle.rules.specs.Step.{frame, beyond, Decided, decideOn, moved, updateWords, written, zeroed, cleared}
 use Rattle.rules.specs.Run.{uncounted}
 use Rattle.rules.specs.History.{AfterPress, kept, zeros6, oldWords, undoRecord, granted, grantedBy, forwardBy, forwardOf, entryCheck, backCheck, restored, backBy, backOf}
-use Rattle.rules.specs.PlainWalk.{Stage, stageOf, PlainWalk, decisionAt, followBy, next, stageFrom, stage, Press, forward, back, checkAnswer, forwardAnswer, plainAnswer, netAfter, max, scratchAt, pressScratch}
+use Rattle.rules.specs.PlainWalk.{Stage, stageOf, PlainWalk, decisionAt, followBy, next, stageFrom, stage, Press, forward, back, checkAnswer, forwardAnswer, plainAnswer, netAfter, pressScratch}
 use Rattle.rules.specs.Walk.{pressOf}
 use Rattle.rules.proofs.Questions.{Framed, frame-passed}
 use Rattle.rules.proofs.Legal.{Legal, written-length, still-framed}

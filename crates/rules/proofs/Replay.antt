@@ -13,7 +13,7 @@ use Rattle.rules.specs.declared.State.{State}
 use Rattle.rules.specs.declared.Pressed.{Pressed}
 use Rattle.rules.specs.Check.{_else_}
 use Rattle.rules.specs.Questions.{Method}
-use Rattle.rules.specs.Step.{Decider, Machine}
+use Rattle.rules.specs.Step.{Decider, Machine, machineBy}
 use Rattle.rules.specs.History.{AfterPress}
 use Rattle.rules.specs.PlainWalk.{forward}
 use Rattle.rules.specs.Walk.{pressOf, Walked, walkOf, Demand3}
@@ -104,12 +104,12 @@ module _ (x : Machine) (bytes : List ℕ) (s : State) (slots log answers : List 
   replay-short h = rw (lt-leb (3 * length bytes) (length answers) h)
 
 -- DEMAND 3 of what is left in the lent words, whatever sheet was loaded, of any lawful rules
-module _ (rules : Method → Decider) (law : (l : Method) → Lawful (record { runs = l; decides = rules l })) (l : Method) (bytes : List ℕ) (s : State) (slots log answers : List ℕ) where
-  pub from-any-load : FromAnyLoad rules l s slots log answers bytes (replayOf (record { runs = l; decides = rules l }) bytes s slots log answers)
+module _ (rules : Method → Decider) (law : (l : Method) → Lawful (machineBy rules l)) (l : Method) (bytes : List ℕ) (s : State) (slots log answers : List ℕ) where
+  pub from-any-load : FromAnyLoad rules l s slots log answers bytes (replayOf (machineBy rules l) bytes s slots log answers)
   from-any-load sheet from room =
-      let x : Machine = record { runs = l; decides = rules l } in
+      let x : Machine = machineBy rules l in
       let w = walkOf x (pressesOfBytes bytes) s slots log in
-      let d : Demand3 (plainWalkIn rules sheet l slots log) slots (pressesOfBytes bytes) (walkOf (record { runs = l; decides = rules l }) (pressesOfBytes bytes) s slots log) =
+      let d : Demand3 (plainWalkIn rules sheet l slots log) slots (pressesOfBytes bytes) (walkOf (machineBy rules l) (pressesOfBytes bytes) s slots log) =
       rw (from .same-method, from .same-state, from .same-slots) (demand3 rules law sheet (from .slots₀) (from .kinds₀) (from .words₀) (from .bytes) (from .accepted) log (pressesOfBytes bytes)) in
       rw (replay-made x bytes s slots log answers room) (record {
         all-made = refl;

@@ -1,5 +1,5 @@
 -- THE THEOREM on a whole list of presses, of any lawful machine: whatever the presses, the words in the slots and the log. Assumes nothing.
-use Prim.Native.Nat.{ℕ, zero, suc, _+_, _-_, _*_, _≤_}
+use Prim.Native.Nat.{ℕ, zero, suc, _+_, _-_, _*_, _≤_, max}
 use mathlib.Core.Path.{_≡_, refl, sym, ap, _∙_}
 use mathlib.Core.Bool.{Bool, true, false, cond}
 use mathlib.Core.Option.{Option, none, some}
@@ -7,7 +7,7 @@ use mathlib.Core.List.{List, [], _∷_, _++_}
 use native.Mathlib.Omega.{arith}
 use native.Mathlib.Nat.{zero-add, add-zero}
 use borrow.Author.Tests.{ltb-true}
-use lib.ListN.{length, take, drop, take-append-drop}
+use lib.ListN.{length, take-append-drop}
 use lib.Seq.{length-take-le}
 use lib.Dec.{ltb, leb}
 use Rattle.rules.specs.declared.State.{State}
@@ -17,10 +17,10 @@ use Rattle.rules.specs.declared.Pressed.{Pressed}
 use Rattle.rules.specs.declared.Pressed.the-variants.{Granted, Return, Throw, Refused}
 use Rattle.rules.specs.declared.End.the-variants as End
 use Rattle.rules.specs.Check.{_else_}
-use Rattle.rules.specs.Questions.{Method, frameSize}
+use Rattle.rules.specs.Questions.{frameSize}
 use Rattle.rules.specs.Step.{frame, beyond, Decided, Machine, decideOn, moved, updateWords, written, zeroed, cleared}
-use Rattle.rules.specs.Run.{runFrom, uncounted, runOf}
-use Rattle.rules.specs.PlainWalk.{Stage, stageOf, PlainWalk, decisionAt, next, stageFrom, stage, Press, forward, back, checkAnswer, forwardAnswer, decisionOf, plainAnswer, netAfter, plainAnswers, plainNet, max, scratchAt, scratchFrom, pressScratch, plainScratch}
+use Rattle.rules.specs.Run.{runFrom, runOf}
+use Rattle.rules.specs.PlainWalk.{Stage, stageOf, PlainWalk, decisionAt, next, stageFrom, stage, Press, forward, back, checkAnswer, forwardAnswer, decisionOf, plainAnswer, netAfter, plainAnswers, plainNet, scratchAt, scratchFrom, pressScratch, plainScratch}
 use Rattle.rules.specs.Walk.{pressOf, Walked, walkOf, one, grants, refusedWith, refusals, Demand3}
 use Rattle.rules.proofs.Questions.{Framed, frame-passed}
 use Rattle.rules.proofs.Step.{run-ordinary}

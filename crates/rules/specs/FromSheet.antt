@@ -8,7 +8,7 @@ use Rattle.rules.specs.declared.Reading.{Reading}
 use Rattle.rules.specs.Check.{Check, passed, refused, _≤ⁿ_, _<ⁿ_, _=ⁿ_}
 use Rattle.rules.specs.Fetch.{u32}
 use Rattle.rules.specs.Questions.{Method, method}
-use Rattle.rules.specs.Step.{Decider}
+use Rattle.rules.specs.Step.{Decider, machineBy}
 use Rattle.rules.specs.Sheet.{bodyAt, recordEnd, poolIndex, poolTag, isWide, unread, sheetCheck, poolStart, poolEnd, loadedState}
 use Rattle.rules.specs.PlainWalk.{Stage, PlainWalk}
 
@@ -62,7 +62,7 @@ stage0 sheet p = record { pc = 0; depth = 0; frame = placesBy (p .«max_locals»
 abbrev pub plainWalkBy : (Method → Decider) → List ℕ → Lengths → Reading → PlainWalk
 plainWalkBy rules sheet n p =
     record {
-      machine = record { runs = sheetMethod sheet p n; decides = rules (sheetMethod sheet p n) };
+      machine = machineBy rules (sheetMethod sheet p n);
       slots = n .slots;
       log = n .log;
       state = loadedState (p .«max_stack») (p .«max_locals») (p .«return_type»);

@@ -1,5 +1,5 @@
 -- Stages and the plain walk (RULES, 'The plain walk'), of any machine. Assumes nothing.
-use Prim.Native.Nat.{ℕ, zero, suc, _+_, _-_}
+use Prim.Native.Nat.{ℕ, zero, suc, _+_, _-_, max}
 use mathlib.Core.Bool.{cond}
 use mathlib.Core.List.{List, [], _∷_}
 use mathlib.Core.Option.{Option, none, some}
@@ -107,9 +107,6 @@ plainNet f [] net = net
 plainNet f (p ∷ ps) net = plainNet f ps (netAfter p net (plainAnswer f p net))
 
 -- ---- scratch: how many slots after the frame were taken, and so are 0
-
-abbrev pub max : ℕ → ℕ → ℕ
-max a b = a + (b - a)
 
 abbrev pub scratchAt : PlainWalk → Option Stage → ℕ
 scratchAt f none = 0

@@ -7,7 +7,11 @@ use Rattle.values.specs.Kinds.{int}
 use Rattle.values.specs.Integers.{toByte, toChar, toShort}
 use Rattle.values.specs.Words.{bits, meaning}
 use Rattle.rules.specs.Check.{Check, passed, _else_, _>>_, _=ⁿ_}
-use Rattle.rules.specs.Descriptor.{byteType, charType, doubleType, floatType, intType, longType, classType, shortType, voidType, booleanType}
+use Rattle.rules.specs.Descriptor.{byteType, charType, doubleType, floatType, intType, longType, classType, shortType, voidType, booleanType, isBase}
+
+-- the return type of a state: B C D F I J S Z, L for every reference, V; any other number counts as 0
+unfoldable pub isReturnType : ℕ → Bool
+isReturnType t = isBase t || (t =ⁿ classType) || (t =ⁿ voidType)
 
 -- the return types that go with each return instruction
 abbrev pub suits : ℕ → Value → Bool
@@ -17,10 +21,6 @@ suits t (Float v) = t =ⁿ floatType
 suits t (Double v) = t =ⁿ doubleType
 suits t (Reference v) = t =ⁿ classType
 suits t Void = t =ⁿ voidType
-
--- one of the ten; any other number counts as 0
-unfoldable pub isReturnType : ℕ → Bool
-isReturnType t = suits t (Int 0) || suits t (Long 0) || suits t (Float 0) || suits t (Double 0) || suits t (Reference 0) || suits t Void
 
 -- what is kept of an int: bit 0 of a boolean, and the rest as by I2B, I2C and I2S
 unfoldable pub narrowed : ℕ → ℕ → ℕ

@@ -5,6 +5,7 @@ use mathlib.Core.List.{List, [], _∷_, _++_}
 use lib.IntN.{ℤ, pos, negsuc, _+ℤ_}
 use lib.ListN.{length, getD, take, drop, replicate}
 use lib.Seq.{paste}
+use Rattle.values.specs.declared.Value.{Value}
 use Rattle.values.specs.Kinds.{placesOf}
 use Rattle.rules.specs.declared.State.{State}
 use Rattle.rules.specs.declared.Update.{Update}
@@ -78,15 +79,19 @@ following s i = pos (s .pc + i .size)
 abbrev pub target : State → ℤ → ℤ
 target s z = pos (s .pc) +ℤ z
 
--- all that it pushes, from its first place on the stack on; or the local stored. A return, with question 32, or a zero divisor ends before question 10
+-- a return of a value, with question 32
+abbrev pub returnOf : ℕ → Value → Check Decision
+returnOf t v = do
+  r ← returned t v
+  passed (Return r)
+
+-- all that it pushes, from its first place on the stack on; or the local stored. A return or a zero divisor ends before question 10
 abbrev pub outcome : Method → State → Instruction → Result → Check Decision
 outcome l s i (pushes ws) = ordinary l s i (following s i) (base s i) (pushed i) ws
 outcome l s i (stores ws) = ordinary l s i (following s i) (i .operand .index) (placesOf (i .rule .locals)) ws
 outcome l s i (divides by ws) = cond (by =ⁿ 0) (passed Throw) (ordinary l s i (following s i) (base s i) (pushed i) ws)
 outcome l s i (branches t z) = ordinary l s i (cond t (target s z) (following s i)) 0 0 []
-outcome l s i (returns v) = do
-  r ← returned (s .«return_type») v
-  passed (Return r)
+outcome l s i (returns v) = returnOf (s .«return_type») v
 
 abbrev pub decision : Check Decision → Decision
 decision (passed d) = d
@@ -119,6 +124,10 @@ pub record Machine : Type 0 where
   pub runs : Method
   pub decides : Decider
 
+-- by rules that are given the method whose steps they are to decide
+abbrev pub machineBy : (Method → Decider) → Method → Machine
+machineBy rules l = record { runs = l; decides = rules l }
+
 abbrev pub decideOn : Machine → State → List ℕ → Decided
 decideOn x s slots = x .decides (length slots) s (frame s slots)
 
@@ -127,7 +136,7 @@ abbrev pub coreRules : Method → Decider
 coreRules l n s words = record { decision = decideFrame l n s words; scratch = 0 }
 
 abbrev pub coreMachine : Method → Machine
-coreMachine l = record { runs = l; decides = coreRules l }
+coreMachine l = machineBy coreRules l
 
 abbrev pub machine : List ℕ → List ℕ → List ℕ → Machine
 machine code kinds words = coreMachine (method code kinds words)

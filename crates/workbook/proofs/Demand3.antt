@@ -5,7 +5,7 @@ use mathlib.Core.Bool.{Bool, true, false}
 use mathlib.Core.List.{List, [], _∷_, _++_, map}
 use native.Mathlib.Omega.{arith}
 use lib.Dec.{leb}
-use borrow.Author.Tests.{le-leb, leb-true}
+use borrow.Author.Tests.{le-leb}
 use lib.ListN.{length, getD, take, drop}
 use lib.Seq.{paste, length-paste}
 use Rattle.rules.specs.declared.State.{State}
@@ -20,23 +20,22 @@ use Rattle.rules.specs.declared.Load.the-variants as Load
 use Rattle.rules.specs.Check.{Check, passed, refused, _else_, _>>_}
 use Rattle.rules.specs.Fetch.{u8}
 use Rattle.rules.specs.Questions.{Method, method}
-use Rattle.rules.specs.Step.{Machine, coreRules, coreMachine, frame, beyond, zeroed, decideOn, Decided}
+use Rattle.rules.specs.Step.{Machine, coreRules, coreMachine, frame, beyond, zeroed, decideOn}
 use Rattle.rules.specs.Run.{uncounted}
-use Rattle.rules.specs.Sheet.{sheetCheck, loadedPool, AfterLoad, loadOf, codeOf}
-use Rattle.rules.specs.History.{AfterPress, kept, logCheck, grantedBy, forwardBy, forwardOf, backCheck, backBy, backOf}
+use Rattle.rules.specs.Sheet.{sheetCheck, loadedPool, loadOf}
+use Rattle.rules.specs.History.{AfterPress, grantedBy, forwardBy, forwardOf, backCheck, backBy, backOf}
 use Rattle.rules.specs.PlainWalk.{PlainWalk, Press, forward, back, plainAnswers, plainNet, scratchFrom}
 use Rattle.rules.specs.Walk.{pressOf, Walked, walkOf, Demand3}
-use Rattle.rules.specs.FromSheet.{readingOf}
 use Rattle.rules.specs.Answers.{valueAnswer, endAnswer, pressedAnswer, loadAnswer}
-use Rattle.rules.specs.Presses.{pressesOfBytes, Replayed, replayOf, loadedMethod, LeftBy, plainWalkIn, Demand3InWords}
+use Rattle.rules.specs.Presses.{replayOf, loadedMethod, LeftBy, plainWalkIn}
 use Rattle.rules.proofs.Lawful.{core-lawful}
 use Rattle.rules.proofs.Sheet.{sheet-numbered, load-accepted}
-use Rattle.rules.proofs.AcceptedLoad.{Read, was-read, Said, accepted-said, refused-above}
+use Rattle.rules.proofs.AcceptedLoad.{was-read, Said, accepted-said, refused-above}
 use Rattle.rules.proofs.FromSheet.{demand3}
 use Rattle.rules.proofs.Replay.{from-any-load}
 use Rattle.workbook.specs.StateWords.{stateWords, stateIn, stateSize, withState, lengthsCheck, sizesCheck}
 use Rattle.workbook.specs.Calls.{Called, stateAfter, answerAfter, forwardCall, backCall, withSteps, runCall, pressesMade, pressesCall, shortNumber, LoadCalled, loadBy, loadFor, loadCall}
-use Rattle.workbook.specs.Demand3.{partAt, methodLeft, Calls, pressCall, callsOf, answersLeft, Demand3OfCalls, FromThisLoad, LeftByLoad, FromAnyLoadCall}
+use Rattle.workbook.specs.Demand3.{methodLeft, Calls, pressCall, callsOf, answersLeft, Demand3OfCalls, FromThisLoad, LeftByLoad, FromAnyLoadCall}
 use Rattle.workbook.proofs.Checks.{lengths-long, lengths-pass, sizes-pass}
 
 -- ---- a state, written and read again, is the state

@@ -1,7 +1,7 @@
 -- `given_back` meets its contract. Assumes nothing.
 use borrow.Author.Needs.{needs}
-use Rattle.interpreter.proofs.returning.given_back.Statement.{statement}
-use Rattle.interpreter.proofs.returning.given_back.Tie as tie
+use Rattle.returns.proofs.given_back.Statement.{statement}
+use Rattle.returns.proofs.given_back.Tie as tie
 
 enum-told : tie.Need-enum-told
 enum-told c = search needs

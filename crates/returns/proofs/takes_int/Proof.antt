@@ -1,7 +1,7 @@
 -- `takes_int` meets its contract. Assumes nothing.
 use borrow.Author.Tests.{ne-eqb}
-use Rattle.interpreter.proofs.returning.takes_int.Statement.{statement}
-use Rattle.interpreter.proofs.returning.takes_int.Tie as tie
+use Rattle.returns.proofs.takes_int.Statement.{statement}
+use Rattle.returns.proofs.takes_int.Tie as tie
 
 returns : tie.Need-returns
 returns c = rw (c .match .keys1)

@@ -7,8 +7,8 @@ use values::Value;
 ghost use mathlib.Core.Path.{_≡_};
 ghost use mathlib.Core.Bool.{not, _||_};
 ghost use Rattle.values.specs.declared.Value.the-variants.{Int};
-ghost use Rattle.rules.specs.Returns.{isReturnType, suits, narrowed, givenBack, returned};
-ghost use Rattle.interpreter.specs.Stages.{returnOf};
+ghost use Rattle.rules.specs.Returns.{isReturnType, suits, narrowed, givenBack};
+ghost use Rattle.rules.specs.Step.{returnOf, decision};
 
 // The return types, in ASCII (JVMS, table 4.3-A).
 const BYTE: u32 = 0x42;
@@ -116,8 +116,8 @@ fn given_back(t: u32, v: Value) -> Value
 }
 
 // A return of a value by a method of a return type.
-pub(crate) fn give_back(return_type: u32, v: Value) -> Decision
-    ensures { λ r. ⌜ r ≡ returnOf (returned «return_type» v) ⌝ }
+pub fn give_back(return_type: u32, v: Value) -> Decision
+    ensures { λ r. ⌜ r ≡ decision (returnOf «return_type» v) ⌝ }
 {
     if !may_return(return_type, v) {
         return Decision::Refused(32);
