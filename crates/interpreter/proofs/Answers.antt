@@ -31,6 +31,7 @@ use Rattle.rules.specs.Answers.{checked}
 use Rattle.frame.specs.Place.{placeOf}
 use Rattle.rules.proofs.Answers.{row-refused}
 use Rattle.frame.proofs.Needs.{Says, place-says}
+use Rattle.returns.specs.Settled.{settled}
 use Rattle.interpreter.specs.Stages.{reach, locatedOf, locatedDecision}
 use Rattle.interpreter.proofs.Decision.{entryAt, listed}
 use Rattle.interpreter.proofs.Sources.{located-decides}
@@ -78,7 +79,7 @@ module _ (l : Method) (s : State) (slots : List ℕ) (framed : frameCheck l s (l
     by-needs n e = refused-by-needs l (length slots) s (frame s slots) framed (d .i) (d .at) n (says (Placed.Refused n) e)
 
     pub by-located : (first depth : ℕ) → Placed.At first depth ≡ placeOf entry index s
-        → locatedDecision l slots (s .pc) (s .«return_type») (locatedOf entry index constant (s .pc + size) first depth) ≡ decideOf l s slots
+        → settled (s .«return_type») (locatedDecision l slots (s .pc) (locatedOf entry index constant (s .pc + size) first depth)) ≡ decideOf l s slots
     by-located first depth e =
         rw (d .entered, d .sized, d .indexed, d .as-word) (located-decides l s slots framed (d .i) (d .at) first depth (says (Placed.At first depth) e))
 

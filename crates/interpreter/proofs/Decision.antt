@@ -26,11 +26,13 @@ use Rattle.operands.specs.Target.{targetOf}
 use Rattle.operands.specs.Switch.{offsetIn, tableOffset, lookupOffset}
 use Rattle.instructions.specs.Table.{isIn, sharedOf, entryOf, sharedIn}
 use Rattle.instructions.proofs.Entries.{digits}
+use Rattle.effects.specs.declared.outcome.Effect.{Effect}
 use Rattle.effects.specs.declared.outcome.Effect.the-variants as Effect
 use Rattle.effects.specs.Effects.{six, effectOf, effectAt}
 use Rattle.effects.specs.Families.{sharedOpcodes}
 use Rattle.effects.proofs.OwnRow.{own-effect, shared-listed}
 use Rattle.frame.proofs.Needs.{Stands, pushed-in, locals-in}
+use Rattle.returns.specs.Settled.{settled}
 use Rattle.interpreter.specs.declared.finishing.Located.{Located}
 use Rattle.interpreter.specs.Stages.{locatedOf, ordinaryTo, offsetAt, branchOf, finishOf}
 use Rattle.interpreter.proofs.Results.{doesFour, isStore, row-stores, offsetBy, offsetOf, row-offset, row-table, row-pairs}
@@ -38,11 +40,14 @@ use Rattle.interpreter.proofs.Results.{doesFour, isStore, row-stores, o
 -- ---- what a result comes to
 
 module _ (l : Method) (s : State) (i : Instruction) where
-  ordinary-is : (to : ℤ) (at n : ℕ) (ws : List ℕ) → decision (ordinary l s i to at n ws) ≡ ordinaryTo (targetOf (inside (l .code) to)) (s .depth - popped i + pushed i) at n (six ws)
+  ordinary-is : (to : ℤ) (at n : ℕ) (ws : List ℕ)
+      → decision (ordinary l s i to at n ws) ≡ settled (s .«return_type») (ordinaryTo (targetOf (inside (l .code) to)) (s .depth - popped i + pushed i) at n (six ws))
   unfolding _>>=_ targetOf ordinaryTo
   ordinary-is to at n ws = go (inside (l .code) to)
     where
-      go : (x : Check ℕ) → decision (x >>= λ pc. passed (Decision.Ordinary (update pc (s .depth - popped i + pushed i) at n ws))) ≡ ordinaryTo (targetOf x) (s .depth - popped i + pushed i) at n (six ws)
+      go : (x : Check ℕ)
+          → decision (x >>= λ pc. passed (Decision.Ordinary (update pc (s .depth - popped i + pushed i) at n ws)))
+          ≡ settled (s .«return_type») (ordinaryTo (targetOf x) (s .depth - popped i + pushed i) at n (six ws))
       go (passed pc) = refl
       go (refused n) = refl
 
@@ -55,13 +60,13 @@ module _ (l : Method) (s : State) (i : Instruction) where
     offset : offsetAt (l .code) (s .pc) (i′ .op) (i′ .constant) key ≡ z
 
   module _ (i′ : Located) (key : ℕ) (z : ℤ) where
-    finished-by : (r : Result) → Locates i′ (isStore r) (offsetBy z r) key → finishOf (l .code) (s .pc) (s .«return_type») i′ key (effectOf r) ≡ decision (outcome l s i r)
+    finished-by : (r : Result) → Locates i′ (isStore r) (offsetBy z r) key → settled (s .«return_type») (finishOf (l .code) (s .pc) i′ key (effectOf r)) ≡ decision (outcome l s i r)
     unfolding finishOf branchOf
     finished-by (pushes ws) h = rw (h .next, h .deep, h .first, h .many) (sym (ordinary-is (following s i) (base s i) (pushed i) ws))
     finished-by (stores ws) h = rw (h .next, h .deep, h .first, h .many) (sym (ordinary-is (following s i) (i .operand .index) (placesOf (i .rule .locals)) ws))
     finished-by (divides by ws) h = go (eqb by 0)
       where
-        go : (t : Bool) → finishOf (l .code) (s .pc) (s .«return_type») i′ key (cond t Effect.Throw (Effect.Words (six ws))) ≡ decision (cond t (passed Decision.Throw) (ordinary l s i (following s i) (base s i) (pushed i) ws))
+        go : (t : Bool) → settled (s .«return_type») (finishOf (l .code) (s .pc) i′ key (cond t Effect.Throw (Effect.Words (six ws)))) ≡ decision (cond t (passed Decision.Throw) (ordinary l s i (following s i) (base s i) (pushed i) ws))
         go true = refl
         go false = rw (h .next, h .deep, h .first, h .many) (sym (ordinary-is (following s i) (base s i) (pushed i) ws))
     finished-by (branches t y) h = rw (h .next, h .deep, h .offset) (sym (ordinary-is (cond t (target s y) (following s i)) 0 0 []))
@@ -117,14 +122,14 @@ module _ (l : Method) (s : State) (i : Instruction) (f : Sound (l .code) (s .pc)
     -- once four words are what it works on
     module _ (slots : List ℕ) (framed : frameCheck l s (length slots) ≡ passed tt) (at : fetched (l .code) (s .pc) ≡ passed i) (needed : needsCheck l s i ≡ passed tt) where
       pub from-words : (a b c d : ℕ) → wordsAt (i .rule .reads) l s (frame s slots) i ≡ take (works (i .rule)) (a ∷ b ∷ c ∷ d ∷ [])
-          → finishOf (l .code) (s .pc) (s .«return_type») (locatedAt s i first depth) a (effectAt (sharedIn (entryAt i)) (low 32 (i .operand .constant)) a b c d) ≡ decideOf l s slots
+          → settled (s .«return_type») (finishOf (l .code) (s .pc) (locatedAt s i first depth) a (effectAt (sharedIn (entryAt i)) (low 32 (i .operand .constant)) a b c d)) ≡ decideOf l s slots
       from-words a b c d w =
           let same : result l s (frame s slots) i ≡ doesFour (f .row) (i .operand) a b c d =
           ap (i .rule .does (i .operand)) w ∙ ap (λ (r : Rule). r .does (i .operand) (take (works r) (a ∷ b ∷ c ∷ d ∷ []))) (f .ruled) in
           let own : effectAt (sharedIn (entryAt i)) (low 32 (i .operand .constant)) a b c d ≡ effectOf (doesFour (f .row) (i .operand) a b c d) =
           rw shared-is (sym (own-effect (i .opcode) (f .row) (f .found) (i .operand .index) (low 32 (i .operand .constant)) (i .operand .pairs) a b c d)
           ∙ ap (λ (o : Operand). effectOf (doesFour (f .row) o a b c d)) operand-is) in
-          ap (finishOf (l .code) (s .pc) (s .«return_type») (locatedAt s i first depth) a) own
+          ap (λ (x : Effect). settled (s .«return_type») (finishOf (l .code) (s .pc) (locatedAt s i first depth) a x)) own
           ∙ finished-by l s i (locatedAt s i first depth) a (i .operand .constant) (doesFour (f .row) (i .operand) a b c d) (located a b c d)
           ∙ ap (λ (r : Result). decision (outcome l s i r)) (sym same)
           ∙ sym (decided l (length slots) s (frame s slots) framed i at needed)

@@ -2,22 +2,25 @@
 use Prim.Native.Nat.{ℕ, zero, suc, _+_, _-_, _≤_, _<_}
 use mathlib.Core.Path.{_≡_, refl, sym, ap, _∙_}
 use mathlib.Core.List.{List, [], _∷_}
-use mathlib.Core.Logic.{⊎-elim}
+use mathlib.Core.Logic.{⊎-elim, inl, inr}
 use native.Mathlib.Omega.{arith}
 use native.Mathlib.Numerals.{add-one}
 use types.Run.{OneOf}
 use denote.Enum.Declared.{tagOf}
 use lib.ListN.{length}
+use Rattle.values.specs.declared.Value.{Value}
 use Rattle.rules.specs.declared.State.{State}
 use Rattle.rules.specs.declared.Update.{Update}
 use Rattle.rules.specs.declared.Decision.{Decision}
 use Rattle.rules.specs.declared.Decision.the-variants.{Ordinary, Return, Throw, Refused}
 use Rattle.rules.proofs.Decision.{the-type}
-use Rattle.rules.specs.Check.{passed}
+use Rattle.rules.specs.Check.{Check, passed, refused, _>>=_}
+use Rattle.rules.specs.Returns.{returned}
 use Rattle.rules.specs.Questions.{Method, frameCheck}
-use Rattle.rules.specs.Step.{decideOf, moved, written}
+use Rattle.rules.specs.Step.{decision, decideOf, moved, written}
 use Rattle.rules.proofs.Questions.{frame-passed}
 use Rattle.rules.proofs.Legal.{Legal, ordinary-legal, written-length, still-framed}
+use Rattle.returns.specs.Settled.{settled}
 use Rattle.interpreter.specs.Advance.{Reached, stands, advanceFrom}
 
 -- a decision that is not ordinary, as `let .. else` leaves it
@@ -26,6 +29,18 @@ Other d = OneOf (1 ∷ 2 ∷ 3 ∷ []) (tagOf the-type d)
 
 pub not-other : (u : Update) → Other (Ordinary u) → ⊥
 not-other u h = ⊎-elim (λ z. omega arith) (⊎-elim (λ z. omega arith) (λ z. omega arith)) h
+
+-- and it stays another once question 32 is asked of a return
+settled-other : (t : ℕ) (d : Decision) → Other d → Other (settled t d)
+unfolding _>>=_
+settled-other t (Ordinary u) h = h
+settled-other t (Return v) h = go (returned t v)
+  where
+    go : (x : Check Value) → Other (decision (x >>= λ r. passed (Return r)))
+    go (passed r) = inl refl
+    go (refused n) = inr (inr refl)
+settled-other t Throw h = h
+settled-other t (Refused n) h = h
 
 -- ---- steps, by the first decision
 
@@ -83,8 +98,8 @@ module _ (l : Method) (slots₀ : List ℕ) (most : ℕ) (s₀ : State) (slots :
             ∙ sym (advance-ordinary l n s slots (most - (n + 1)) u e) ∙ ap (λ (b : ℕ). advanceFrom l b n s slots) left ∙ g .rest;
       }
 
-  pub ends-there : (d : Decision) → decideOf l s slots ≡ d → Other d → stands s n slots d ≡ advanceFrom l most 0 s₀ slots₀
-  ends-there d e o = sym (advance-other l n s slots (most - n) d e o) ∙ g .rest
+  pub ends-there : (d : Decision) → settled (s .«return_type») d ≡ decideOf l s slots → Other d → stands s n slots (settled (s .«return_type») d) ≡ advanceFrom l most 0 s₀ slots₀
+  ends-there d e o = sym (advance-other l n s slots (most - n) (settled (s .«return_type») d) (sym e) (settled-other (s .«return_type») d o)) ∙ g .rest
 
   pub all-taken : n ≡ most → (d : Decision) → decideOf l s slots ≡ d → stands s n slots d ≡ advanceFrom l most 0 s₀ slots₀
   all-taken h d e =

@@ -11,7 +11,7 @@ use Rattle.values.specs.Words.{meaning}
 use Rattle.rules.specs.declared.Decision.{Decision}
 use Rattle.rules.specs.declared.Decision.the-variants as Decision
 use Rattle.rules.specs.Questions.{Method}
-use Rattle.rules.specs.Step.{firstPlace, inside, returnOf, decision}
+use Rattle.rules.specs.Step.{firstPlace, inside}
 use Rattle.operands.specs.declared.jump.Target.{Target}
 use Rattle.operands.specs.declared.jump.Target.the-variants as Target
 use Rattle.operands.specs.Target.{targetOf}
@@ -94,17 +94,17 @@ unfoldable pub branchOf : List ℕ → ℕ → Located → ℕ → Bool → Deci
 branchOf code pc i key taken =
     ordinaryTo (targetOf (inside code (cond taken (pos pc +ℤ offsetAt code pc (i .op) (i .constant) key) (pos (i .next))))) (i .depth) 0 0 noWords
 
-unfoldable pub finishOf : List ℕ → ℕ → ℕ → Located → ℕ → Effect → Decision
-finishOf code pc t i key (Effect.Words w) = ordinaryTo (targetOf (inside code (pos (i .next)))) (i .depth) (i .first) (i .many) w
-finishOf code pc t i key Effect.Throw = Decision.Throw
-finishOf code pc t i key (Effect.Branch taken) = branchOf code pc i key taken
-finishOf code pc t i key (Effect.Return v) = decision (returnOf t v)
+unfoldable pub finishOf : List ℕ → ℕ → Located → ℕ → Effect → Decision
+finishOf code pc i key (Effect.Words w) = ordinaryTo (targetOf (inside code (pos (i .next)))) (i .depth) (i .first) (i .many) w
+finishOf code pc i key Effect.Throw = Decision.Throw
+finishOf code pc i key (Effect.Branch taken) = branchOf code pc i key taken
+finishOf code pc i key (Effect.Return v) = Decision.Return v
 
 -- ---- both
 
-abbrev pub readDecision : List ℕ → ℕ → ℕ → Located → Read → Decision
-readDecision code pc t i (Read.Words w) = finishOf code pc t i (w .a) (effectAt (i .op) (i .constant) (w .a) (w .b) (w .c) (w .d))
-readDecision code pc t i (Read.Refused n) = Decision.Refused n
+abbrev pub readDecision : List ℕ → ℕ → Located → Read → Decision
+readDecision code pc i (Read.Words w) = finishOf code pc i (w .a) (effectAt (i .op) (i .constant) (w .a) (w .b) (w .c) (w .d))
+readDecision code pc i (Read.Refused n) = Decision.Refused n
 
-unfoldable pub locatedDecision : Method → List ℕ → ℕ → ℕ → Located → Decision
-locatedDecision l slots pc t i = readDecision (l .code) pc t i (readOf (l .kinds) (l .words) slots (i .op) (i .index) (i .base))
+unfoldable pub locatedDecision : Method → List ℕ → ℕ → Located → Decision
+locatedDecision l slots pc i = readDecision (l .code) pc i (readOf (l .kinds) (l .words) slots (i .op) (i .index) (i .base))

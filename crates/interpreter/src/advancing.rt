@@ -4,6 +4,7 @@ use crate::deciding::decide_framed;
 use crate::stepping::moved;
 use frame::check_frame;
 use frame::commit;
+use returns::settle;
 use rules::Checked;
 use rules::Decision;
 use rules::State;
@@ -43,7 +44,7 @@ pub(crate) fn advance_framed(
             return Reached {
                 state: t,
                 steps,
-                decision,
+                decision: settle(t.return_type, decision),
             };
         };
         if steps == most {

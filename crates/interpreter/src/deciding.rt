@@ -1,4 +1,4 @@
-// One step, decided with nothing written: questions 1 to 10 and 32 in their order, and what the instruction does.
+// One step, decided with nothing written: questions 1 to 10 in their order, what the instruction does, and question 32 of a return.
 use crate::finishing::Located;
 use crate::finishing::finish;
 use crate::finishing::locate;
@@ -10,6 +10,7 @@ use frame::check_frame;
 use frame::place;
 use instructions::Decoded;
 use instructions::decode;
+use returns::settle;
 use rules::Checked;
 use rules::Decision;
 use rules::State;
@@ -22,33 +23,33 @@ ghost use Rattle.effects.specs.Families.{sharedOpcodes};
 ghost use Rattle.rules.specs.Check.{passed};
 ghost use Rattle.rules.specs.Questions.{method, frameCheck};
 ghost use Rattle.rules.specs.Step.{decideOf};
+ghost use Rattle.returns.specs.Settled.{settled};
 ghost use Rattle.interpreter.specs.Stages.{locatedDecision};
 
-// Question 9, what the instruction does, and question 10, or 32 of a return.
+// Question 9, what the instruction does, and question 10.
 fn decide_located(
     code: &[u8],
     kinds: &[u8],
     words: &[u32],
     slots: &[u32],
     pc: u32,
-    return_type: u32,
     i: Located,
 ) -> Decision
     requires { ⌜ length (now code) ≤ 65535 ⌝ }
     requires { ⌜ isIn sharedOpcodes (i .op) ≡ true ⌝ }
-    ensures { λ r. ⌜ r ≡ locatedDecision (method (now (code .entry)) (now (kinds .entry)) (now (words .entry))) (now (slots .entry)) pc «return_type» i ⌝ }
+    ensures { λ r. ⌜ r ≡ locatedDecision (method (now (code .entry)) (now (kinds .entry)) (now (words .entry))) (now (slots .entry)) pc i ⌝ }
 {
     let read = read_words(kinds, words, slots, i.op, i.index, i.base);
     match read {
         Read::Refused(n) => Decision::Refused(n),
         Read::Words(w) => {
             let does = effect(i.op, i.constant, w.a, w.b, w.c, w.d);
-            finish(code, pc, return_type, i, w.a, does)
+            finish(code, pc, i, w.a, does)
         }
     }
 }
 
-// Questions 4 to 10 and 32, where questions 1 to 3 have passed.
+// Questions 4 to 10, where questions 1 to 3 have passed; a return is not asked question 32 yet.
 pub(crate) fn decide_framed(
     code: &[u8],
     kinds: &[u8],
@@ -57,7 +58,7 @@ pub(crate) fn decide_framed(
     s: State,
 ) -> Decision
     requires { ⌜ frameCheck (method (now code) (now kinds) (now words)) s (length (now slots)) ≡ passed tt ⌝ }
-    ensures { λ r. ⌜ r ≡ decideOf (method (now (code .entry)) (now (kinds .entry)) (now (words .entry))) s (now (slots .entry)) ⌝ }
+    ensures { λ r. ⌜ settled (s .«return_type») r ≡ decideOf (method (now (code .entry)) (now (kinds .entry)) (now (words .entry))) s (now (slots .entry)) ⌝ }
 {
     let pc = s.pc;
     let decoded = decode(code, pc);
@@ -75,7 +76,7 @@ pub(crate) fn decide_framed(
                 Placed::At { base, depth } => {
                     let next = pc as usize + size;
                     let i = locate(entry, index, constant, next, base, depth);
-                    decide_located(code, kinds, words, slots, pc, s.return_type, i)
+                    decide_located(code, kinds, words, slots, pc, i)
                 }
             }
         }
@@ -89,6 +90,9 @@ pub fn decide(code: &[u8], kinds: &[u8], words: &[u32], slots: &[u32], s: State)
     let asked = check_frame(code, kinds, words, slots, s);
     match asked {
         Checked::Refused(n) => Decision::Refused(n),
-        Checked::Passed => decide_framed(code, kinds, words, slots, s),
+        Checked::Passed => {
+            let decision = decide_framed(code, kinds, words, slots, s);
+            settle(s.return_type, decision)
+        }
     }
 }

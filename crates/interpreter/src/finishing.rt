@@ -1,4 +1,4 @@
-// What a step comes to, from what its instruction does: the next offset, with question 10, and where the words go; or what a return gives back.
+// What a step comes to, from what its instruction does: the next offset, with question 10, and where the words go.
 use effects::Effect;
 use effects::Six;
 use instructions::locals_in;
@@ -10,7 +10,6 @@ use operands::inside;
 use operands::jump_relative;
 use operands::lookup_offset;
 use operands::table_offset;
-use returns::give_back;
 use rules::Decision;
 use rules::Update;
 ghost use mathlib.Core.Path.{_≡_};
@@ -163,16 +162,9 @@ fn branch(code: &[u8], pc: u32, i: Located, key: u32, taken: bool) -> Decision
 }
 
 // What the step comes to, of what its instruction does; `key` is the first word that it works on.
-pub(crate) fn finish(
-    code: &[u8],
-    pc: u32,
-    return_type: u32,
-    i: Located,
-    key: u32,
-    does: Effect,
-) -> Decision
+pub(crate) fn finish(code: &[u8], pc: u32, i: Located, key: u32, does: Effect) -> Decision
     requires { ⌜ length (now code) ≤ 65535 ⌝ }
-    ensures { λ r. ⌜ r ≡ finishOf (now (code .entry)) pc «return_type» i key does ⌝ }
+    ensures { λ r. ⌜ r ≡ finishOf (now (code .entry)) pc i key does ⌝ }
 {
     match does {
         Effect::Words(w) => {
@@ -181,6 +173,6 @@ pub(crate) fn finish(
         }
         Effect::Throw => Decision::Throw,
         Effect::Branch(taken) => branch(code, pc, i, key, taken),
-        Effect::Return(v) => give_back(return_type, v),
+        Effect::Return(v) => Decision::Return(v),
     }
 }

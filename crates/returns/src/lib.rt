@@ -9,6 +9,7 @@ ghost use mathlib.Core.Bool.{not, _||_};
 ghost use Rattle.values.specs.declared.Value.the-variants.{Int};
 ghost use Rattle.rules.specs.Returns.{isReturnType, suits, narrowed, givenBack};
 ghost use Rattle.rules.specs.Step.{returnOf, decision};
+ghost use Rattle.returns.specs.Settled.{settled};
 
 // The return types, in ASCII (JVMS, table 4.3-A).
 const BYTE: u32 = 0x42;
@@ -116,11 +117,23 @@ fn given_back(t: u32, v: Value) -> Value
 }
 
 // A return of a value by a method of a return type.
-pub fn give_back(return_type: u32, v: Value) -> Decision
+fn give_back(return_type: u32, v: Value) -> Decision
     ensures { λ r. ⌜ r ≡ decision (returnOf «return_type» v) ⌝ }
 {
     if !may_return(return_type, v) {
         return Decision::Refused(32);
     }
     Decision::Return(given_back(return_type, v))
+}
+
+// A decision whose return has not been asked question 32 yet. A run asks it once, of its last decision, and not at each of its steps.
+pub fn settle(return_type: u32, decision: Decision) -> Decision
+    ensures { λ r. ⌜ r ≡ settled «return_type» decision ⌝ }
+{
+    match decision {
+        Decision::Ordinary(u) => Decision::Ordinary(u),
+        Decision::Return(v) => give_back(return_type, v),
+        Decision::Throw => Decision::Throw,
+        Decision::Refused(n) => Decision::Refused(n),
+    }
 }

@@ -1,10 +1,11 @@
 -- `advance_framed` meets its contract. The loop's invariant is `Going`; the measure is how many steps are left. Assumes nothing.
 use Prim.Native.Nat.{_-_}
-use mathlib.Core.Path.{refl, sym, _∙_}
+use mathlib.Core.Path.{refl, sym, ap, _∙_}
 use native.Mathlib.Omega.{arith}
 use native.Mathlib.Nat.{sub-zero}
 use Rattle.rules.specs.Questions.{method}
 use Rattle.rules.proofs.Legal.{ordinary-legal}
+use Rattle.returns.specs.Settled.{settled}
 use Rattle.interpreter.proofs.Steps.{Going, turn, ends-there, all-taken}
 use borrow.Author.Needs.{needs}
 use Rattle.interpreter.proofs.advancing.advance_framed.Statement.{statement}
@@ -27,13 +28,16 @@ decide-framed-requires c κs = c .before .loop .inv .framed
 enum-known-decision : tie.Need-enum-known-decision Inv-loop μ-loop
 enum-known-decision c = search needs
 
+settle-requires : tie.Need-settle-requires Inv-loop μ-loop
+settle-requires c κs = search needs
+
 same-length : tie.Need-same-length Inv-loop μ-loop
-same-length c = c .before .before .before .loop .inv .long
+same-length c = c .before .before .before .before .loop .inv .long
 
 returns : tie.Need-returns Inv-loop μ-loop
 returns c =
-    let t = c .before .before .before .loop in
-    (ends-there _ _ _ _ (t .slots) (t .t) (t .steps) (t .inv) _ (sym (c .before .decide-framed .ensures)) (c .match .keys2), t .inv .upto)
+    let t = c .before .before .before .before .loop in
+    (rw (c .settle .ensures) (ends-there _ _ _ _ (t .slots) (t .t) (t .steps) (t .inv) (c .before .before .decide-framed .result) (c .before .before .decide-framed .ensures) (c .before .match .keys2)), t .inv .upto)
 
 same-length-2 : tie.Need-same-length-2 Inv-loop μ-loop
 same-length-2 c = c .before .before .before .before .before .before .loop .inv .long
@@ -41,12 +45,12 @@ same-length-2 c = c .before .before .before .before .before .before .loop .inv .
 returns-2 : tie.Need-returns-2 Inv-loop μ-loop
 returns-2 c =
     let t = c .before .before .before .before .before .before .loop in
-    (all-taken _ _ _ _ (t .slots) (t .t) (t .steps) (t .inv) (c .if1 .taken) _ (sym (c .before .before .before .before .decide-framed .ensures) ∙ c .before .before .decision .given .1), t .inv .upto)
+    (all-taken _ _ _ _ (t .slots) (t .t) (t .steps) (t .inv) (c .if1 .taken) _ (sym (c .before .before .before .before .decide-framed .ensures) ∙ ap (settled _) (c .before .before .decision .given .1)), t .inv .upto)
 
 commit-requires : tie.Need-commit-requires Inv-loop μ-loop
 commit-requires c κs =
     let t = c .before .before .before .before .before .before .before .loop in
-    let k = ordinary-legal _ (t .t) (t .slots) _ (sym (c .before .before .before .before .before .decide-framed .ensures) ∙ c .before .before .before .decision .given .1) in
+    let k = ordinary-legal _ (t .t) (t .slots) _ (sym (c .before .before .before .before .before .decide-framed .ensures) ∙ ap (settled _) (c .before .before .before .decision .given .1)) in
     (k .few, k .within, k .frame-there .room)
 
 moved-requires : tie.Need-moved-requires Inv-loop μ-loop
@@ -64,7 +68,7 @@ loop-again : tie.Need-loop-again Inv-loop μ-loop
 loop-again c =
     let t = c .before .before .before .before .before .before .before .before .before .before .before .loop in
     rw (c .moved .ensures, c .before .before .before .commit .ensures)
-    (turn _ _ _ _ (t .slots) (t .t) (t .steps) (t .inv) (c .before .before .before .before .before .if1 .left) _ (sym (c .before .before .before .before .before .before .before .before .before .decide-framed .ensures) ∙ c .before .before .before .before .before .before .before .decision .given .1))
+    (turn _ _ _ _ (t .slots) (t .t) (t .steps) (t .inv) (c .before .before .before .before .before .if1 .left) _ (sym (c .before .before .before .before .before .before .before .before .before .decide-framed .ensures) ∙ ap (settled _) (c .before .before .before .before .before .before .before .decision .given .1)))
 
 pub advance-framed-spec : {M : Type 1} → statement M
 advance-framed-spec =
@@ -75,6 +79,7 @@ advance-framed-spec =
     loop-holds
     decide-framed-requires
     enum-known-decision
+    settle-requires
     same-length
     returns
     same-length-2

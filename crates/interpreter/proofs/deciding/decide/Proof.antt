@@ -19,11 +19,14 @@ enum-told c = search needs
 decide-framed-requires : tie.Need-decide-framed-requires
 decide-framed-requires c κs = row-passed _ (sym (c .enum-told .given .1) ∙ c .before .before .check-frame .ensures)
 
+settle-requires : tie.Need-settle-requires
+settle-requires c κs = search needs
+
 returns : tie.Need-returns
 returns c = sym (by-frame _ _ (now (c .before .before .before .before .before .before .before .before .args .slots)) _ (sym (c .before .asked .given .1) ∙ c .before .before .before .check-frame .ensures))
 
 returns-2 : tie.Need-returns-2
-returns-2 c = search needs
+returns-2 c = c .settle .ensures ∙ c .before .decide-framed .ensures
 
 pub decide-spec : {M : Type 1} → statement M
 decide-spec =
@@ -33,5 +36,6 @@ decide-spec =
     enum-known-asked
     enum-told
     decide-framed-requires
+    settle-requires
     returns
     returns-2)

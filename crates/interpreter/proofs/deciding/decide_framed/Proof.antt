@@ -1,9 +1,10 @@
 -- `decide_framed` meets its contract. Assumes nothing.
-use mathlib.Core.Path.{sym, _∙_}
+use mathlib.Core.Path.{sym, ap, _∙_}
 use native.Mathlib.Omega.{arith}
 use denote.Ref.{now}
 use Rattle.rules.specs.Questions.{method}
 use Rattle.rules.proofs.Questions.{framed}
+use Rattle.returns.specs.Settled.{settled}
 use Rattle.interpreter.specs.Stages.{locatedOf}
 use Rattle.interpreter.proofs.Answers.{decodes, by-fetch, by-needs, by-located, next-small, in-table}
 use borrow.Author.Needs.{needs}
@@ -72,7 +73,7 @@ returns-3 c =
     let l = method (now (a .code)) (now (a .kinds)) (now (a .words)) in
     let f = c .before .before .before .before .before .before .before .before .before .before .before .before .before .before .pre in
     let d = decodes (l .code) (a .s .pc) _ _ _ _ (sym (c .before .before .before .before .before .before .before .decoded2 .given .1) ∙ c .before .before .before .before .before .before .before .before .before .decode .ensures) in
-    c .decide-located .ensures ∙ rw (c .before .locate .ensures) (by-located l (a .s) (now (a .slots)) f _ _ _ _ d _ _ (sym (c .before .before .before .placed2 .given .1) ∙ c .before .before .before .before .before .place .ensures))
+    ap (settled (a .s .«return_type»)) (c .decide-located .ensures) ∙ rw (c .before .locate .ensures) (by-located l (a .s) (now (a .slots)) f _ _ _ _ d _ _ (sym (c .before .before .before .placed2 .given .1) ∙ c .before .before .before .before .before .place .ensures))
 
 pub decide-framed-spec : {M : Type 1} → statement M
 decide-framed-spec =

@@ -30,9 +30,6 @@ branch-requires c κs = search needs
 enum-known-does-3 : tie.Need-enum-known-does-3
 enum-known-does-3 c = search needs
 
-give-back-requires : tie.Need-give-back-requires
-give-back-requires c κs = search needs
-
 returns : tie.Need-returns
 unfolding finishOf
 returns c = simp (c .before .before .before .does .given .1, ← c .before .inside .ensures, ← c .ordinary-to .ensures)
@@ -47,7 +44,7 @@ returns-3 c = simp (c .before .before .does2 .given .1, ← c .branch .ensures)
 
 returns-4 : tie.Need-returns-4
 unfolding finishOf
-returns-4 c = simp (c .before .before .does3 .given .1, ← c .give-back .ensures)
+returns-4 c = simp (c .before .does3 .given .1)
 
 pub finish-spec : {M : Type 1} → statement M
 finish-spec =
@@ -60,7 +57,6 @@ finish-spec =
     enum-known-does-2
     branch-requires
     enum-known-does-3
-    give-back-requires
     returns
     returns-2
     returns-3
