@@ -147,6 +147,7 @@ contentsCheck sheet at p AR = do
   argumentCount sheet at ≤ⁿ p .«max_locals» else 27
   not (isDescribed p) || (argumentCount sheet at =ⁿ p .«parameter_places») else 31
 
+-- then what it adds to what has been read
 abbrev pub contentsRead : List ℕ → ℕ → Reading → Mark → Check Reading
 contentsRead sheet at p m = do
   contentsCheck sheet at p m
