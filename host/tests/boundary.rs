@@ -6,7 +6,7 @@
 mod common;
 
 use common::memory::{Lent, Memory};
-use common::{sheet, Lengths, ANSWER_WORDS, ENOUGH, STATE_WORDS};
+use common::{sheet, writes_nothing, Lengths, ANSWER_WORDS, ENOUGH, NOTHING, STATE_WORDS};
 use workbook_host::records::{arguments, constant, record, sizes};
 
 /// ICONST_3, ICONST_4, IADD, IRETURN.
@@ -17,18 +17,6 @@ fn too_short() -> impl Iterator<Item = (usize, usize)> {
     let states = 0..=ENOUGH.state;
     let all = states.flat_map(|state| (0..=ENOUGH.answer).map(move |answer| (state, answer)));
     all.filter(|&(state, answer)| state < STATE_WORDS || answer < ANSWER_WORDS)
-}
-
-/// A call that has to come back with a number and to write nothing at all.
-fn writes_nothing(
-    memory: &Memory,
-    call: impl FnOnce(&mut Memory) -> u32,
-    number: u32,
-    what: &dyn std::fmt::Display,
-) {
-    let mut after = memory.clone();
-    assert_eq!(call(&mut after), number, "{what}");
-    after.assert_equals(memory, what);
 }
 
 /// Sheets that are refused for what stands in them, with their numbers.
@@ -641,15 +629,7 @@ fn presses_give_each_value_in_two_words() {
 
 #[test]
 fn empty_parts_are_met_by_answers() {
-    let nothing = Lengths {
-        kinds: 0,
-        words: 0,
-        slots: 0,
-        log: 0,
-        state: 0,
-        answer: 0,
-    };
-    let memory = Memory::new(&[], nothing);
+    let memory = Memory::new(&[], NOTHING);
     writes_nothing(&memory, Memory::load, 23, &"load");
     writes_nothing(&memory, Memory::step, 1, &"step");
     writes_nothing(&memory, Memory::forward, 1, &"forward");
@@ -660,7 +640,7 @@ fn empty_parts_are_met_by_answers() {
     let lengths = Lengths {
         state: STATE_WORDS,
         answer: ANSWER_WORDS,
-        ..nothing
+        ..NOTHING
     };
     let mut memory = Memory::loaded(&sheet(0, 0, &[0xB1], &[]), lengths);
     assert_eq!(memory.step(), 106);

@@ -5,7 +5,7 @@
 mod common;
 
 use common::memory::Memory;
-use common::{sheet, with_descriptor, Lengths, ENOUGH};
+use common::{sheet, with_descriptor, writes_nothing, ENOUGH, NOTHING};
 use workbook_host::records::{arguments, constant, record, sizes};
 
 /// The state's word with the return type.
@@ -37,27 +37,12 @@ const NO_LETTERS: [u32; 8] = [
     u32::MAX,
 ];
 
-/// A call that has to come back with a number and to write nothing at all.
-#[track_caller]
-fn writes_nothing(memory: &Memory, call: impl FnOnce(&mut Memory) -> u32, number: u32, what: &str) {
-    let mut after = memory.clone();
-    assert_eq!(call(&mut after), number, "{what}");
-    after.assert_equals(memory, &what);
-}
-
 /// A load that has to be refused with a number, also where no memory is lent: 26 comes last.
 #[track_caller]
 fn refuses(sheet: &[u8], number: u32, what: &str) {
-    writes_nothing(&Memory::new(sheet, ENOUGH), Memory::load, number, what);
-    let nothing = Lengths {
-        kinds: 0,
-        words: 0,
-        slots: 0,
-        log: 0,
-        state: 0,
-        answer: 0,
-    };
-    writes_nothing(&Memory::new(sheet, nothing), Memory::load, number, what);
+    for lengths in [ENOUGH, NOTHING] {
+        writes_nothing(&Memory::new(sheet, lengths), Memory::load, number, &what);
+    }
 }
 
 /// A sheet whose method takes so many argument words.
@@ -434,8 +419,8 @@ fn back_does_not_ask_for_the_return_type() {
     let start = Memory::loaded(&sheet, ENOUGH);
     let mut memory = start.clone();
     assert_eq!(memory.forward(), 0);
-    writes_nothing(&memory, Memory::step, 32, "step");
-    writes_nothing(&memory, Memory::forward, 32, "forward");
+    writes_nothing(&memory, Memory::step, 32, &"step");
+    writes_nothing(&memory, Memory::forward, 32, &"forward");
     assert_eq!(memory.back(), 0);
     let mut expected = start;
     expected.log = memory.log.clone();

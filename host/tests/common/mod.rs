@@ -116,6 +116,29 @@ pub const ENOUGH: Lengths = Lengths {
     answer: ANSWER_WORDS + 2,
 };
 
+/// No memory at all.
+pub const NOTHING: Lengths = Lengths {
+    kinds: 0,
+    words: 0,
+    slots: 0,
+    log: 0,
+    state: 0,
+    answer: 0,
+};
+
+/// A call that has to come back with a number and to write nothing at all.
+#[track_caller]
+pub fn writes_nothing(
+    memory: &Memory,
+    call: impl FnOnce(&mut Memory) -> u32,
+    number: u32,
+    what: &dyn Display,
+) {
+    let mut after = memory.clone();
+    assert_eq!(call(&mut after), number, "{what}");
+    after.assert_equals(memory, what);
+}
+
 impl Memory {
     /// A sheet, and parts of these lengths that are filled with junk.
     pub fn new(sheet: &[u8], lengths: Lengths) -> Memory {
