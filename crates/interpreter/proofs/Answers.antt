@@ -31,7 +31,7 @@ use Rattle.rules.specs.Answers.{checked}
 use Rattle.frame.specs.Place.{placeOf}
 use Rattle.rules.proofs.Answers.{row-refused}
 use Rattle.frame.proofs.Needs.{Says, place-says}
-use Rattle.returns.specs.Settled.{settled}
+use Rattle.return_types.specs.Settled.{settled}
 use Rattle.interpreter.specs.Stages.{reach, locatedOf, locatedDecision}
 use Rattle.interpreter.proofs.Decision.{entryAt, listed}
 use Rattle.interpreter.proofs.Sources.{located-decides}

@@ -32,7 +32,7 @@ use Rattle.effects.specs.Effects.{six, effectOf, effectAt}
 use Rattle.effects.specs.Families.{sharedOpcodes}
 use Rattle.effects.proofs.OwnRow.{own-effect, shared-listed}
 use Rattle.frame.proofs.Needs.{Stands, pushed-in, locals-in}
-use Rattle.returns.specs.Settled.{settled}
+use Rattle.return_types.specs.Settled.{settled}
 use Rattle.interpreter.specs.declared.finishing.Located.{Located}
 use Rattle.interpreter.specs.Stages.{locatedOf, ordinaryTo, offsetAt, branchOf, finishOf}
 use Rattle.interpreter.proofs.Results.{doesFour, isStore, row-stores, offsetBy, offsetOf, row-offset, row-table, row-pairs}

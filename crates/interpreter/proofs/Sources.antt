@@ -23,7 +23,7 @@ use Rattle.rules.proofs.Step.{refused-by-needs}
 use Rattle.instructions.specs.Table.{sharedOf}
 use Rattle.const_pool.specs.Constant.{found, constantOf}
 use Rattle.frame.proofs.Needs.{Stands}
-use Rattle.returns.specs.Settled.{settled}
+use Rattle.return_types.specs.Settled.{settled}
 use Rattle.interpreter.specs.Stages.{locatedOf, fourAt, fromPool, readOf, readDecision, locatedDecision}
 use Rattle.interpreter.specs.declared.reading.Read.the-variants as Read
 use Rattle.interpreter.proofs.Results.{sourceOf, row-reads, constantKinds, row-constants, constantGiven, row-given}

@@ -20,7 +20,7 @@ use Rattle.rules.specs.Questions.{Method, frameCheck}
 use Rattle.rules.specs.Step.{decision, decideOf, moved, written}
 use Rattle.rules.proofs.Questions.{frame-passed}
 use Rattle.rules.proofs.Legal.{Legal, ordinary-legal, written-length, still-framed}
-use Rattle.returns.specs.Settled.{settled}
+use Rattle.return_types.specs.Settled.{settled}
 use Rattle.interpreter.specs.Advance.{Reached, stands, advanceFrom}
 
 -- a decision that is not ordinary, as `let .. else` leaves it

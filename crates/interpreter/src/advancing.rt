@@ -4,7 +4,7 @@ use crate::deciding::decide_framed;
 use crate::stepping::moved;
 use frame::check_frame;
 use frame::commit;
-use returns::settle;
+use return_types::settle;
 use rules::Checked;
 use rules::Decision;
 use rules::State;

@@ -10,7 +10,7 @@ use frame::check_frame;
 use frame::place;
 use instructions::Decoded;
 use instructions::decode;
-use returns::settle;
+use return_types::settle;
 use rules::Checked;
 use rules::Decision;
 use rules::State;
@@ -23,7 +23,7 @@ ghost use Rattle.effects.specs.Families.{sharedOpcodes};
 ghost use Rattle.rules.specs.Check.{passed};
 ghost use Rattle.rules.specs.Questions.{method, frameCheck};
 ghost use Rattle.rules.specs.Step.{decideOf};
-ghost use Rattle.returns.specs.Settled.{settled};
+ghost use Rattle.return_types.specs.Settled.{settled};
 ghost use Rattle.interpreter.specs.Stages.{locatedDecision};
 
 // Question 9, what the instruction does, and question 10.

@@ -5,7 +5,7 @@ use native.Mathlib.Omega.{arith}
 use native.Mathlib.Nat.{sub-zero}
 use Rattle.rules.specs.Questions.{method}
 use Rattle.rules.proofs.Legal.{ordinary-legal}
-use Rattle.returns.specs.Settled.{settled}
+use Rattle.return_types.specs.Settled.{settled}
 use Rattle.interpreter.proofs.Steps.{Going, turn, ends-there, all-taken}
 use borrow.Author.Needs.{needs}
 use Rattle.interpreter.proofs.advancing.advance_framed.Statement.{statement}

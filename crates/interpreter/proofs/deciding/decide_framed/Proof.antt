@@ -4,7 +4,7 @@ use native.Mathlib.Omega.{arith}
 use denote.Ref.{now}
 use Rattle.rules.specs.Questions.{method}
 use Rattle.rules.proofs.Questions.{framed}
-use Rattle.returns.specs.Settled.{settled}
+use Rattle.return_types.specs.Settled.{settled}
 use Rattle.interpreter.specs.Stages.{locatedOf}
 use Rattle.interpreter.proofs.Answers.{decodes, by-fetch, by-needs, by-located, next-small, in-table}
 use borrow.Author.Needs.{needs}

@@ -1,7 +1,7 @@
 -- `settle` meets its contract. Assumes nothing.
 use borrow.Author.Needs.{needs}
-use Rattle.returns.proofs.settle.Statement.{statement}
-use Rattle.returns.proofs.settle.Tie as tie
+use Rattle.return_types.proofs.settle.Statement.{statement}
+use Rattle.return_types.proofs.settle.Tie as tie
 
 enum-known-decision : tie.Need-enum-known-decision
 enum-known-decision c = search needs

@@ -2,8 +2,8 @@
 use mathlib.Core.Path.{sym, _∙_}
 use borrow.Author.Tests.{not-true, not-false}
 use borrow.Author.Needs.{needs}
-use Rattle.returns.proofs.may_return.Statement.{statement}
-use Rattle.returns.proofs.may_return.Tie as tie
+use Rattle.return_types.proofs.may_return.Statement.{statement}
+use Rattle.return_types.proofs.may_return.Tie as tie
 
 is-return-type-requires : tie.Need-is-return-type-requires
 is-return-type-requires c κs = search needs

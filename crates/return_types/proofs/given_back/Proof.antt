@@ -1,7 +1,7 @@
 -- `given_back` meets its contract. Assumes nothing.
 use borrow.Author.Needs.{needs}
-use Rattle.returns.proofs.given_back.Statement.{statement}
-use Rattle.returns.proofs.given_back.Tie as tie
+use Rattle.return_types.proofs.given_back.Statement.{statement}
+use Rattle.return_types.proofs.given_back.Tie as tie
 
 enum-told : tie.Need-enum-told
 enum-told c = search needs

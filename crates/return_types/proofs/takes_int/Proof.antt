@@ -1,7 +1,7 @@
 -- `takes_int` meets its contract. Assumes nothing.
 use borrow.Author.Tests.{ne-eqb}
-use Rattle.returns.proofs.takes_int.Statement.{statement}
-use Rattle.returns.proofs.takes_int.Tie as tie
+use Rattle.return_types.proofs.takes_int.Statement.{statement}
+use Rattle.return_types.proofs.takes_int.Tie as tie
 
 returns : tie.Need-returns
 returns c = rw (c .match .keys1)

@@ -2,8 +2,8 @@
 use borrow.Author.Tests.{ne-eqb}
 use Rattle.rules.specs.Returns.{narrowed}
 use borrow.Author.Needs.{needs}
-use Rattle.returns.proofs.narrow.Statement.{statement}
-use Rattle.returns.proofs.narrow.Tie as tie
+use Rattle.return_types.proofs.narrow.Statement.{statement}
+use Rattle.return_types.proofs.narrow.Tie as tie
 
 i2b-requires : tie.Need-i2b-requires
 i2b-requires c κs = search needs

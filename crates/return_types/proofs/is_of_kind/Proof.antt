@@ -1,7 +1,7 @@
 -- `is_of_kind` meets its contract. Assumes nothing.
 use borrow.Author.Needs.{needs}
-use Rattle.returns.proofs.is_of_kind.Statement.{statement}
-use Rattle.returns.proofs.is_of_kind.Tie as tie
+use Rattle.return_types.proofs.is_of_kind.Statement.{statement}
+use Rattle.return_types.proofs.is_of_kind.Tie as tie
 
 enum-told : tie.Need-enum-told
 enum-told c = search needs

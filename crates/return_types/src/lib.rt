@@ -9,7 +9,7 @@ ghost use mathlib.Core.Bool.{not, _||_};
 ghost use Rattle.values.specs.declared.Value.the-variants.{Int};
 ghost use Rattle.rules.specs.Returns.{isReturnType, suits, narrowed, givenBack};
 ghost use Rattle.rules.specs.Step.{returnOf, decision};
-ghost use Rattle.returns.specs.Settled.{settled};
+ghost use Rattle.return_types.specs.Settled.{settled};
 
 // The return types, in ASCII (JVMS, table 4.3-A).
 const BYTE: u32 = 0x42;

@@ -4,8 +4,8 @@ use borrow.Author.Tests.{not-true, not-false}
 use Rattle.rules.specs.declared.Decision.the-variants as Decision
 use Rattle.rules.proofs.Returns.{of-another-kind, gives-back}
 use borrow.Author.Needs.{needs}
-use Rattle.returns.proofs.give_back.Statement.{statement}
-use Rattle.returns.proofs.give_back.Tie as tie
+use Rattle.return_types.proofs.give_back.Statement.{statement}
+use Rattle.return_types.proofs.give_back.Tie as tie
 
 may-return-requires : tie.Need-may-return-requires
 may-return-requires c κs = search needs

@@ -1,8 +1,8 @@
 -- `is_return_type` meets its contract. Assumes nothing.
 use borrow.Author.Tests.{ne-eqb}
 use Rattle.rules.specs.Returns.{isReturnType}
-use Rattle.returns.proofs.is_return_type.Statement.{statement}
-use Rattle.returns.proofs.is_return_type.Tie as tie
+use Rattle.return_types.proofs.is_return_type.Statement.{statement}
+use Rattle.return_types.proofs.is_return_type.Tie as tie
 
 returns : tie.Need-returns
 unfolding isReturnType
