@@ -23,7 +23,8 @@ pub struct Reached {
     pub decision: Decision,
 }
 
-// At most so many steps, where questions 1 to 3 have passed. They stay passed, and are asked no more.
+// At most so many steps, where questions 1 to 3 have passed. They stay passed, and are asked no more. Question 32 is asked of whatever decision leaves the loop: an
+// ordinary one passes it, and asked at one exit alone it makes each turn dearer (docs/PERFORMANCE.md).
 pub(crate) fn advance_framed(
     code: &[u8],
     kinds: &[u8],
@@ -51,7 +52,7 @@ pub(crate) fn advance_framed(
             return Reached {
                 state: t,
                 steps,
-                decision,
+                decision: settle(t.return_type, decision),
             };
         }
         commit(slots, t, u);
