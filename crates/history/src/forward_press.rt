@@ -4,6 +4,7 @@ use crate::undo_log::write_entry;
 use frame::commit;
 use interpreter::advance;
 use interpreter::moved;
+use return_types::settle;
 use rules::Decision;
 use rules::Pressed;
 use rules::State;
@@ -13,7 +14,7 @@ ghost use Prim.Native.Nat.{_+_, _≤_};
 ghost use lib.ListN.{length};
 ghost use Rattle.rules.specs.Step.{machine};
 ghost use Rattle.rules.specs.Questions.{frameSize};
-ghost use Rattle.rules.specs.History.{logCheck, grantedBy, forwardOf};
+ghost use Rattle.rules.specs.History.{logCheck, grantedBy, pressedBy, forwardOf};
 ghost use Rattle.history.specs.Left.{pressed};
 
 // The state after a press, and its answer.
@@ -42,6 +43,18 @@ fn grant(slots: &mut [u32], log: &mut [u32], s: State, u: Update) -> PressResult
     }
 }
 
+// A step's decision as a press.
+pub fn pressed_by(decision: Decision) -> Pressed
+    ensures { λ r. ⌜ r ≡ pressedBy decision ⌝ }
+{
+    match decision {
+        Decision::Ordinary(_) => Pressed::Granted,
+        Decision::Return(v) => Pressed::Return(v),
+        Decision::Throw => Pressed::Throw,
+        Decision::Refused(n) => Pressed::Refused(n),
+    }
+}
+
 // A press of forward on any code, pool, slots, log and state. One that is not granted writes nothing.
 pub fn forward(
     code: &[u8],
@@ -54,20 +67,13 @@ pub fn forward(
     ensures { λ r. ⌜ pressed r (now (slots .exit)) (now (log .exit)) ≡ forwardOf (machine (now (code .entry)) (now (kinds .entry)) (now (words .entry))) s (now (slots .entry)) (now (log .entry)) ⌝ }
 {
     let reached = advance(code, kinds, words, slots, s, 0);
+    let t = reached.state;
     let decision = reached.decision;
-    match decision {
-        Decision::Ordinary(u) => grant(slots, log, s, u),
-        Decision::Return(v) => PressResult {
+    let Decision::Ordinary(u) = decision else {
+        return PressResult {
             state: s,
-            answer: Pressed::Return(v),
-        },
-        Decision::Throw => PressResult {
-            state: s,
-            answer: Pressed::Throw,
-        },
-        Decision::Refused(n) => PressResult {
-            state: s,
-            answer: Pressed::Refused(n),
-        },
-    }
+            answer: pressed_by(settle(t.return_type, decision)),
+        };
+    };
+    grant(slots, log, s, u)
 }

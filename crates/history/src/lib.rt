@@ -10,5 +10,6 @@ pub use answer_words::value_answer;
 pub use back_press::back;
 pub use forward_press::PressResult;
 pub use forward_press::forward;
+pub use forward_press::pressed_by;
 pub use press_list::Replay;
 pub use press_list::presses;

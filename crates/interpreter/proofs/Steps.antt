@@ -31,7 +31,7 @@ pub not-other : (u : Update) → Other (Ordinary u) → ⊥
 not-other u h = ⊎-elim (λ z. omega arith) (⊎-elim (λ z. omega arith) (λ z. omega arith)) h
 
 -- and it stays another once question 32 is asked of a return
-settled-other : (t : ℕ) (d : Decision) → Other d → Other (settled t d)
+pub settled-other : (t : ℕ) (d : Decision) → Other d → Other (settled t d)
 unfolding _>>=_
 settled-other t (Ordinary u) h = h
 settled-other t (Return v) h = go (returned t v)

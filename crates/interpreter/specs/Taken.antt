@@ -8,13 +8,15 @@ use Rattle.rules.specs.declared.End.{End}
 use Rattle.rules.specs.declared.End.the-variants as End
 use Rattle.rules.specs.Step as step
 use Rattle.rules.specs.Run as run
+use Rattle.return_types.specs.Settled.{settled}
 use Rattle.interpreter.specs.Advance as advance
 use Rattle.interpreter.specs.declared.advancing.Reached.{Reached}
 use Rattle.interpreter.specs.declared.stepping.Stepped.{Stepped}
 use Rattle.interpreter.specs.declared.running.Ran.{Ran}
 
+-- once question 32 is asked of the decision
 abbrev pub reached : Reached → List ℕ → advance.Reached
-reached r slots = advance.stands (r .state) (r .steps) slots (r .decision)
+reached r slots = advance.stands (r .state) (r .steps) slots (settled (r .state .«return_type») (r .decision))
 
 abbrev pub stepped : Stepped → List ℕ → step.Stepped
 stepped r slots = record { state = r .state; decision = r .decision; slots = slots }

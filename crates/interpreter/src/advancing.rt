@@ -4,7 +4,6 @@ use crate::deciding::decide_framed;
 use crate::stepping::moved;
 use frame::check_frame;
 use frame::commit;
-use return_types::settle;
 use rules::Checked;
 use rules::Decision;
 use rules::State;
@@ -16,15 +15,15 @@ ghost use Rattle.rules.specs.Questions.{method, frameCheck};
 ghost use Rattle.interpreter.specs.Advance.{advanceFrom};
 ghost use Rattle.interpreter.specs.Taken.{reached};
 
-// The state that ordinary steps led to, how many they were, and what the next step comes to; nothing of that is written.
+// The state that ordinary steps led to, how many they were, and what the next step comes to; nothing of that is written. A return has not been asked question 32 yet:
+// `settle` asks it where a step, a press or a run ends with one, and no turn of the loop has to.
 pub struct Reached {
     pub state: State,
     pub steps: u64,
     pub decision: Decision,
 }
 
-// At most so many steps, where questions 1 to 3 have passed. They stay passed, and are asked no more. Question 32 is asked of whatever decision leaves the loop: an
-// ordinary one passes it, and asked at one exit alone it makes each turn dearer (docs/PERFORMANCE.md).
+// At most so many steps, where questions 1 to 3 have passed. They stay passed, and are asked no more.
 pub(crate) fn advance_framed(
     code: &[u8],
     kinds: &[u8],
@@ -45,14 +44,14 @@ pub(crate) fn advance_framed(
             return Reached {
                 state: t,
                 steps,
-                decision: settle(t.return_type, decision),
+                decision,
             };
         };
         if steps == most {
             return Reached {
                 state: t,
                 steps,
-                decision: settle(t.return_type, decision),
+                decision,
             };
         }
         commit(slots, t, u);

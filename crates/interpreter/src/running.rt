@@ -3,6 +3,7 @@ use crate::advancing::advance_framed;
 use crate::stepping::moved;
 use frame::check_frame;
 use frame::commit;
+use return_types::settle;
 use rules::Checked;
 use rules::Decision;
 use rules::End;
@@ -61,7 +62,7 @@ fn run_framed(
     let t = reached.state;
     let decision = reached.decision;
     let Decision::Ordinary(u) = decision else {
-        let end = end_of(decision);
+        let end = end_of(settle(t.return_type, decision));
         return ended(t, reached.steps, end);
     };
     commit(slots, t, u);

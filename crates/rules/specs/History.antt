@@ -60,6 +60,13 @@ abbrev pub grantedBy : State → List ℕ → List ℕ → ℕ → Update → Ch
 grantedBy s slots log n u (passed t) = granted s slots log n u
 grantedBy s slots log n u (refused k) = kept s slots log n (Refused k)
 
+-- a decision as a press
+abbrev pub pressedBy : Decision → Pressed
+pressedBy (Decision.Ordinary u) = Granted
+pressedBy (Decision.Return v) = Return v
+pressedBy Decision.Throw = Throw
+pressedBy (Decision.Refused n) = Refused n
+
 abbrev pub forwardBy : State → List ℕ → List ℕ → ℕ → Decision → AfterPress
 forwardBy s slots log n (Decision.Ordinary u) = grantedBy s slots log n u (logCheck (s .count) (length log))
 forwardBy s slots log n (Decision.Return v) = kept s slots log n (Return v)

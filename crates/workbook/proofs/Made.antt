@@ -14,10 +14,10 @@ use Rattle.rules.specs.Check.{passed, refused, _else_, _>>_}
 use Rattle.rules.specs.Questions.{Method}
 use Rattle.rules.specs.Step.{Machine, stepOf}
 use Rattle.rules.specs.Run.{runOf}
-use Rattle.rules.specs.History.{forwardOf, backOf}
+use Rattle.rules.specs.History.{pressedBy, forwardOf, backOf}
 use Rattle.rules.specs.Answers.{decisionAnswer, endAnswer, pressedAnswer}
 use Rattle.workbook.specs.StateWords.{stateIn, stateSize, withState, lengthsCheck, sizesCheck}
-use Rattle.workbook.specs.Calls.{stateAfter, answerAfter, unchanged, pressedBy, stepCall, forwardCall, backCall, withSteps, runCall}
+use Rattle.workbook.specs.Calls.{stateAfter, answerAfter, unchanged, stepCall, forwardCall, backCall, withSteps, runCall}
 
 -- a step has the number that it has as a press
 step-number : (d : Decision) → pressedAnswer (pressedBy d) .number ≡ decisionAnswer d .number

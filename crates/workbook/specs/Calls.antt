@@ -17,7 +17,7 @@ use Rattle.rules.specs.Questions.{Method}
 use Rattle.rules.specs.Step.{Machine, Stepped, stepOf}
 use Rattle.rules.specs.Run.{Ran, runOf}
 use Rattle.rules.specs.Sheet.{sheetCheck, AfterLoad, loadOf}
-use Rattle.rules.specs.History.{AfterPress, forwardOf, backOf}
+use Rattle.rules.specs.History.{AfterPress, pressedBy, forwardOf, backOf}
 use Rattle.rules.specs.Answers.{valueAnswer, decisionAnswer, endAnswer, pressedAnswer, loadAnswer}
 use Rattle.rules.specs.Presses.{answersWords, answersCheck, Replayed, replayOf}
 use Rattle.workbook.specs.StateWords.{stateIn, stateSize, withState, lengthsCheck, sizesCheck}
@@ -54,13 +54,6 @@ called state answer o =
 
 abbrev pub unchanged : List ℕ → List ℕ → List ℕ → List ℕ → ℕ → Called
 unchanged slots log state answer n = record { number = n; slots = slots; log = log; state = state; answer = answer }
-
--- a step as a press
-abbrev pub pressedBy : Decision → Pressed
-pressedBy (Decision.Ordinary u) = Granted
-pressedBy (Decision.Return v) = Return v
-pressedBy Decision.Throw = Throw
-pressedBy (Decision.Refused n) = Refused n
 
 abbrev pub callBy : List ℕ → List ℕ → List ℕ → List ℕ → AfterPress → Check (Unit {0}) → Called
 callBy slots log state answer o (passed t) = called state answer o

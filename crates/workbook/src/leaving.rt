@@ -6,7 +6,6 @@ use history::value_answer;
 use integers::high_word;
 use integers::low_word;
 use rules::Answer;
-use rules::Decision;
 use rules::End;
 use rules::Pressed;
 use rules::State;
@@ -16,19 +15,7 @@ ghost use Prim.Native.Nat.{_≤_};
 ghost use lib.ListN.{length};
 ghost use Rattle.rules.specs.Answers.{pressedAnswer, endAnswer};
 ghost use Rattle.workbook.specs.StateWords.{stateSize};
-ghost use Rattle.workbook.specs.Calls.{stateAfter, answerAfter, withValue, withSteps, pressedBy};
-
-// A step's decision as a press.
-pub(crate) fn pressed_by(decision: Decision) -> Pressed
-    ensures { λ r. ⌜ r ≡ pressedBy decision ⌝ }
-{
-    match decision {
-        Decision::Ordinary(_) => Pressed::Granted,
-        Decision::Return(v) => Pressed::Return(v),
-        Decision::Throw => Pressed::Throw,
-        Decision::Refused(n) => Pressed::Refused(n),
-    }
-}
+ghost use Rattle.workbook.specs.Calls.{stateAfter, answerAfter, withValue, withSteps};
 
 // What ended a run.
 pub(crate) fn end_answer(end: End) -> Answer

@@ -1,7 +1,6 @@
 // A step without history, and the presses of forward and back.
 use crate::leaving::leave;
 use crate::leaving::leave_value;
-use crate::leaving::pressed_by;
 use crate::state_words::ANSWER_WORDS;
 use crate::state_words::STATE_WORDS;
 use crate::state_words::are_lent;
@@ -9,6 +8,7 @@ use crate::state_words::read_state;
 use crate::state_words::sizes_fit;
 use history::back;
 use history::forward;
+use history::pressed_by;
 use interpreter::step;
 ghost use mathlib.Core.Path.{_≡_};
 ghost use mathlib.Core.List.{[]};

@@ -28,27 +28,21 @@ decide-framed-requires c κs = c .before .loop .inv .framed
 enum-known-decision : tie.Need-enum-known-decision Inv-loop μ-loop
 enum-known-decision c = search needs
 
-settle-requires : tie.Need-settle-requires Inv-loop μ-loop
-settle-requires c κs = search needs
-
 same-length : tie.Need-same-length Inv-loop μ-loop
-same-length c = c .before .before .before .before .loop .inv .long
+same-length c = c .before .before .before .loop .inv .long
 
 returns : tie.Need-returns Inv-loop μ-loop
 returns c =
-    let t = c .before .before .before .before .loop in
-    (rw (c .settle .ensures) (ends-there _ _ _ _ (t .slots) (t .t) (t .steps) (t .inv) (c .before .before .decide-framed .result) (c .before .before .decide-framed .ensures) (c .before .match .keys2)), t .inv .upto)
-
-settle-requires-2 : tie.Need-settle-requires-2 Inv-loop μ-loop
-settle-requires-2 c κs = search needs
+    let t = c .before .before .before .loop in
+    (ends-there _ _ _ _ (t .slots) (t .t) (t .steps) (t .inv) (c .before .decide-framed .result) (c .before .decide-framed .ensures) (c .match .keys2), t .inv .upto)
 
 same-length-2 : tie.Need-same-length-2 Inv-loop μ-loop
-same-length-2 c = c .before .before .before .before .before .before .before .loop .inv .long
+same-length-2 c = c .before .before .before .before .before .before .loop .inv .long
 
 returns-2 : tie.Need-returns-2 Inv-loop μ-loop
 returns-2 c =
-    let t = c .before .before .before .before .before .before .before .loop in
-    (rw (c .settle2 .ensures) (all-taken _ _ _ _ (t .slots) (t .t) (t .steps) (t .inv) (c .before .if1 .taken) _ (sym (c .before .before .before .before .before .decide-framed .ensures) ∙ ap (settled _) (c .before .before .before .decision .given .1))), t .inv .upto)
+    let t = c .before .before .before .before .before .before .loop in
+    (all-taken _ _ _ _ (t .slots) (t .t) (t .steps) (t .inv) (c .if1 .taken) _ (sym (c .before .before .before .before .decide-framed .ensures) ∙ ap (settled _) (c .before .before .decision .given .1)), t .inv .upto)
 
 commit-requires : tie.Need-commit-requires Inv-loop μ-loop
 commit-requires c κs =
@@ -82,10 +76,8 @@ advance-framed-spec =
     loop-holds
     decide-framed-requires
     enum-known-decision
-    settle-requires
     same-length
     returns
-    settle-requires-2
     same-length-2
     returns-2
     commit-requires

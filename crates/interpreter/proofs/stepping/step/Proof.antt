@@ -1,7 +1,9 @@
 -- `step` meets its contract. Assumes nothing.
+use mathlib.Core.Path.{ap}
 use denote.Ref.{now}
 use Rattle.rules.specs.Questions.{method}
-use Rattle.interpreter.proofs.Steps.{legal-there}
+use Rattle.return_types.specs.Settled.{settled}
+use Rattle.interpreter.proofs.Steps.{settled-other, legal-there}
 use Rattle.interpreter.proofs.Taken.{step-ordinary, step-other}
 use borrow.Author.Needs.{needs}
 use Rattle.interpreter.proofs.stepping.step.Statement.{statement}
@@ -13,20 +15,24 @@ advance-requires c κs = search needs
 enum-known-decision : tie.Need-enum-known-decision
 enum-known-decision c = search needs
 
+settle-requires : tie.Need-settle-requires
+settle-requires c κs = search needs
+
 same-length : tie.Need-same-length
 same-length c = search needs
 
 returns : tie.Need-returns
 returns c =
-    let a = c .before .before .before .before .before .before .before .before .before .args in
+    let a = c .before .before .before .before .before .before .before .before .before .before .before .args in
+    let r = c .before .before .before .before .before .advance .result in
     let l = method (now (a .code)) (now (a .kinds)) (now (a .words)) in
-    step-other l (a .s) (now (a .slots)) _ (c .before .before .before .advance .ensures) (c .match .keys2)
+    rw (c .settle .ensures) (step-other l (a .s) (now (a .slots)) _ (c .before .before .before .before .before .advance .ensures) (settled-other (r .state .«return_type») (r .decision) (c .before .match .keys2)))
 
 commit-requires : tie.Need-commit-requires
 commit-requires c κs =
-    let a = c .before .before .before .before .before .before .before .before .before .before .before .before .args in
+    let a = c .before .before .before .before .before .before .before .before .before .before .before .before .before .args in
     let l = method (now (a .code)) (now (a .kinds)) (now (a .words)) in
-    let k = legal-there l (a .s) (now (a .slots)) _ (c .before .before .before .before .before .before .advance .ensures) _ (c .before .before .decision .given .1) in
+    let k = legal-there l (a .s) (now (a .slots)) _ (c .before .before .before .before .before .before .before .advance .ensures) _ (ap (settled _) (c .before .before .decision .given .1)) in
     (k .few, k .within, k .frame-there .room)
 
 moved-requires : tie.Need-moved-requires
@@ -37,9 +43,9 @@ same-length-2 c = search needs
 
 returns-2 : tie.Need-returns-2
 returns-2 c =
-    let a = c .before .before .before .before .before .before .before .before .before .before .before .before .before .before .before .before .args in
+    let a = c .before .before .before .before .before .before .before .before .before .before .before .before .before .before .before .before .before .args in
     let l = method (now (a .code)) (now (a .kinds)) (now (a .words)) in
-    rw (c .moved .ensures, c .before .before .before .commit .ensures) (step-ordinary l (a .s) (now (a .slots)) _ (c .before .before .before .before .before .before .before .before .before .before .advance .ensures) _ (c .before .before .before .before .before .before .decision .given .1))
+    rw (c .moved .ensures, c .before .before .before .commit .ensures) (step-ordinary l (a .s) (now (a .slots)) _ (c .before .before .before .before .before .before .before .before .before .before .before .advance .ensures) _ (ap (settled _) (c .before .before .before .before .before .before .decision .given .1)))
 
 pub step-spec : {M : Type 1} → statement M
 step-spec =
@@ -47,6 +53,7 @@ step-spec =
     (tie.spec
     advance-requires
     enum-known-decision
+    settle-requires
     same-length
     returns
     commit-requires

@@ -1,7 +1,7 @@
 -- `pressed_by` meets its contract. Assumes nothing.
 use borrow.Author.Needs.{needs}
-use Rattle.workbook.proofs.leaving.pressed_by.Statement.{statement}
-use Rattle.workbook.proofs.leaving.pressed_by.Tie as tie
+use Rattle.history.proofs.forward_press.pressed_by.Statement.{statement}
+use Rattle.history.proofs.forward_press.pressed_by.Tie as tie
 
 enum-told : tie.Need-enum-told
 enum-told c = search needs
