@@ -67,12 +67,11 @@ pub fn forward(
     ensures { λ r. ⌜ pressed r (now (slots .exit)) (now (log .exit)) ≡ forwardOf (machine (now (code .entry)) (now (kinds .entry)) (now (words .entry))) s (now (slots .entry)) (now (log .entry)) ⌝ }
 {
     let reached = advance(code, kinds, words, slots, s, 0);
-    let t = reached.state;
     let decision = reached.decision;
     let Decision::Ordinary(u) = decision else {
         return PressResult {
             state: s,
-            answer: pressed_by(settle(t.return_type, decision)),
+            answer: pressed_by(settle(s.return_type, decision)),
         };
     };
     grant(slots, log, s, u)

@@ -67,6 +67,10 @@ module _ (l : Method) (s : State) (slots : List ℕ) (r : Reached) (e : r ≡ ad
   pub decided-there : r .decision ≡ decideOf l s slots
   decided-there = ap (λ (x : Reached). x .decision) (e ∙ advance-none l 0 s slots)
 
+  -- so that the return type there is the one that was given
+  pub settled-there : (d : Decision) → settled (s .«return_type») d ≡ settled (r .state .«return_type») d
+  settled-there d = ap (λ (x : Reached). settled (x .state .«return_type») d) (sym (e ∙ advance-none l 0 s slots))
+
   pub slots-there : r .slots ≡ slots
   slots-there = ap (λ (x : Reached). x .slots) (e ∙ advance-none l 0 s slots)
 

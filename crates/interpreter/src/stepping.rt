@@ -33,12 +33,11 @@ pub fn step(code: &[u8], kinds: &[u8], words: &[u32], slots: &mut [u32], s: Stat
     ensures { λ r. ⌜ stepped r (now (slots .exit)) ≡ stepOf (machine (now (code .entry)) (now (kinds .entry)) (now (words .entry))) s (now (slots .entry)) ⌝ }
 {
     let reached = advance(code, kinds, words, slots, s, 0);
-    let t = reached.state;
     let decision = reached.decision;
     let Decision::Ordinary(u) = decision else {
         return Stepped {
             state: s,
-            decision: settle(t.return_type, decision),
+            decision: settle(s.return_type, decision),
         };
     };
     commit(slots, s, u);
