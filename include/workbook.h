@@ -31,7 +31,7 @@ extern "C" {
 #endif
 
 /* The version that this header describes: what workbook_version gives. */
-#define WORKBOOK_VERSION 1
+#define WORKBOOK_VERSION 2
 
 /* Words that must be lent. State words past the seventh and answer words past
    the fourth are never written. */
@@ -119,7 +119,7 @@ enum workbook_number {
 /*
  * The number of the last request that has landed (docs/changes), 0 before the
  * first. A host compares it with WORKBOOK_VERSION before its first call: parts,
- * words and numbers are those of one version. Version 1 has the return type:
+ * words and numbers are those of one version. Version 1 brought the return type:
  * the record DS, the seventh state word, and the numbers 31 and 32.
  */
 uint32_t workbook_version(void);

@@ -6,7 +6,7 @@ use std::sync::OnceLock;
 /// The version of the library that this package was written for: the number of the last request
 /// that had landed, 0 before the first. The first call asks the library for its own, and ends the
 /// program where that is another.
-pub const VERSION: u32 = 1;
+pub const VERSION: u32 = 2;
 
 /// Asks once, and stands before every call: with another version the lent words would be read
 /// wrongly.

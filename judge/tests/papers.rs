@@ -5,6 +5,7 @@ use bytecode::assembler::assemble;
 use bytecode::instructions::switch_operands;
 use bytecode::values::bytes;
 use judge::answers::Answer;
+use judge::opcode_page::page;
 use judge::printed_walk::printed;
 use judge::step::{step, Method, State};
 
@@ -75,4 +76,30 @@ fn the_printed_walk() {
     let sheet = bytes(&sheet.replace(' ', "")).unwrap();
     assert_eq!(printed(&sheet).join("\n"), walk);
     assert_eq!(printed(&sheet[..19]), ["sheet 21"]);
+}
+
+#[test]
+fn lines_of_the_page_of_opcodes() {
+    let page = page();
+    let lines: Vec<&str> = page.lines().collect();
+    assert_eq!(lines.len(), 256);
+    let owed = [
+        "0 1 0 0",
+        "18 2 0 1",
+        "20 3 0 2",
+        "54 2 1 0",
+        "89 1 1 2",
+        "97 1 4 2",
+        "132 3 0 0",
+        "170 0 1 0",
+        "171 0 1 0",
+        "196 254 0 0",
+        "200 5 0 0",
+        "201 255 0 0",
+        "255 255 0 0",
+    ];
+    for line in owed {
+        let opcode: usize = line.split(' ').next().unwrap().parse().unwrap();
+        assert_eq!(lines[opcode], line);
+    }
 }

@@ -36,7 +36,7 @@ fn byte_at(code: &[u8], at: usize) -> u8 {
 }
 
 // The entry of the opcode at an offset, of the one after it where it is WIDE.
-fn expected_entry(code: &[u8], pc: u32) -> u32 {
+fn expected_entry(code: &[u8], pc: u32) -> u64 {
     let at = pc as usize;
     let opcode = byte_at(code, at);
     if opcode == WIDE {

@@ -13,7 +13,7 @@ use Rattle.rules.specs.Step.{base}
 use Rattle.rules.proofs.Fetched.{Sound}
 use Rattle.rules.proofs.Rows.{of-row, small, small-row, OneLocal, no-local, one-local, one-named}
 use Rattle.instructions.specs.Table.{entryOf, popsIn, pushesIn, localsIn}
-use Rattle.instructions.proofs.Entries.{digits}
+use Rattle.instructions.proofs.Entries.{entry-bytes}
 use Rattle.frame.specs.declared.places.Placed.{Placed}
 use Rattle.frame.specs.declared.places.Placed.the-variants.{At, Refused}
 use Rattle.frame.specs.Place.{localThere, placeCheck, answer, placeOf}
@@ -52,13 +52,13 @@ Says l s i (Refused n) = needsCheck l s i ≡ refused n
 
 module _ (code : List ℕ) (pc : ℕ) (i : Instruction) (t : Sound code pc i) where
   pub popped-in : popsIn (entryOf (rowOf (i .opcode))) ≡ popped i
-  popped-in = rw (t .found, t .ruled) (digits (i .opcode) (t .row) (t .found) .pops)
+  popped-in = rw (t .found, t .ruled) (entry-bytes (i .opcode) (t .row) (t .found) .pops)
 
   pub pushed-in : pushesIn (entryOf (rowOf (i .opcode))) ≡ pushed i
-  pushed-in = rw (t .found, t .ruled) (digits (i .opcode) (t .row) (t .found) .pushes)
+  pushed-in = rw (t .found, t .ruled) (entry-bytes (i .opcode) (t .row) (t .found) .pushes)
 
   pub locals-in : localsIn (entryOf (rowOf (i .opcode))) ≡ placesOf (i .rule .locals)
-  locals-in = rw (t .found, t .ruled) (digits (i .opcode) (t .row) (t .found) .locals)
+  locals-in = rw (t .found, t .ruled) (entry-bytes (i .opcode) (t .row) (t .found) .locals)
 
   module _ (s : State) where
     local-below : localsBelow (s .«max_locals») (i .operand .index) (i .rule .locals) ≡ localThere (localsIn (entryOf (rowOf (i .opcode)))) (i .operand .index) (s .«max_locals»)

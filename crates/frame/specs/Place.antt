@@ -1,4 +1,4 @@
--- Questions 6 to 8 from the digits of an entry of the table, and where an instruction then stands on the stack. Assumes nothing.
+-- Questions 6 to 8 from the bytes of an entry of the table, and where an instruction then stands on the stack. Assumes nothing.
 use Prim.Native.Nat.{ℕ, _+_, _-_}
 use mathlib.Core.Bool.{Bool, _||_}
 use Rattle.rules.specs.declared.State.{State}

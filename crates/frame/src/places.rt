@@ -23,7 +23,7 @@ fn local_there(places: u32, index: u32, limit: u16) -> bool
 }
 
 // Questions 6 to 8 for an instruction with its index.
-pub fn place(entry: u32, index: u32, s: State) -> Placed
+pub fn place(entry: u64, index: u32, s: State) -> Placed
     ensures { λ r. ⌜ r ≡ placeOf entry index s ⌝ }
 {
     let pops = pops_in(entry);

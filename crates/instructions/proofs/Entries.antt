@@ -1,19 +1,47 @@
--- What the digits of an entry of the table are. Assumes nothing.
-use Prim.Native.Nat.{ℕ}
-use mathlib.Core.Path.{_≡_, refl}
-use mathlib.Core.Bool.{Bool, true, _&&_}
-use mathlib.Core.Option.{some}
-use native.Mathlib.Omega.{arith}
+-- The table's rule: what the bytes of an entry are. Assumes nothing.
+use Prim.Native.Nat.{ℕ, _<_}
+use mathlib.Core.Path.{_≡_, refl, subst}
+use mathlib.Core.Bool.{Bool, true}
+use mathlib.Core.List.{List, [], _∷_, map}
+use mathlib.Core.Option.{Option, none, some}
 use lib.Dec.{ltb}
-use borrow.Author.Tests.{ltb-true}
 use Rattle.values.specs.Kinds.{placesOf}
-use Rattle.rules.specs.Forms.{Row, Format, alone, implied, byte, short, index, index2, index-const, branch, branch4, table, pairs, widened}
+use Rattle.rules.specs.Forms.{Row, Format, alone, implied, byte, short, index, index2, index-const, branch, branch4, table, pairs, widened, lengthOf}
 use Rattle.rules.specs.Instructions.{instructions, rowOf}
-use Rattle.rules.proofs.Check.{and-true}
-use Rattle.rules.proofs.Rows.{OfRow, every-row, of-row}
-use Rattle.instructions.specs.Table.{lengthOf, formatOf, sharedOf, entryOf, lengthIn, popsIn, pushesIn, localsIn, formatIn, sharedIn}
+use Rattle.rules.specs.OpcodePage.{line, lineBy, lineOf}
+use Rattle.rules.proofs.Rows.{OfRow, every-row, of-row, below-256, upTo, agree}
+use Rattle.instructions.specs.Table.{formatOf, sharedOf, entryOf, lengthIn, popsIn, pushesIn, localsIn, formatIn, sharedIn}
 
--- each number has room in its digits, and an implied index is below 4: computed over the table
+abbrev bytesIn : ℕ → List ℕ
+bytesIn e = formatIn e ∷ sharedIn e ∷ localsIn e ∷ lengthIn e ∷ popsIn e ∷ pushesIn e ∷ []
+
+-- the numbers of a row; an opcode outside the core has the length 255 and nothing else
+abbrev numbersOf : Option Row → List ℕ
+numbersOf none = 0 ∷ 0 ∷ 0 ∷ 255 ∷ 0 ∷ 0 ∷ []
+numbersOf (some r) =
+    formatOf (r .format) ∷ sharedOf r ∷ placesOf (r .rule .locals) ∷ lengthOf (r .format) ∷ placesOf (r .rule .takes) ∷ placesOf (r .rule .gives) ∷ []
+
+-- one test over all 256 entries
+entries-all : map (λ n. bytesIn (entryOf (rowOf n))) (upTo 256) ≡ map (λ n. numbersOf (rowOf n)) (upTo 256)
+unfolding entryOf rowOf
+entries-all = refl
+
+table-rule : (n : ℕ) → n < 256 → bytesIn (entryOf (rowOf n)) ≡ numbersOf (rowOf n)
+table-rule = agree (λ n. bytesIn (entryOf (rowOf n))) (λ n. numbersOf (rowOf n)) 256 entries-all
+
+-- ---- so the page's line of an opcode is in its entry
+
+pub line-in : (n : ℕ) → n < 256 → line n (lengthIn (entryOf (rowOf n))) (popsIn (entryOf (rowOf n))) (pushesIn (entryOf (rowOf n))) ≡ lineOf n
+unfolding lineOf
+line-in n l = go (rowOf n) (table-rule n l)
+  where
+    go : (o : Option Row) → bytesIn (entryOf o) ≡ numbersOf o → line n (lengthIn (entryOf o)) (popsIn (entryOf o)) (pushesIn (entryOf o)) ≡ lineBy n o
+    go none e = cc
+    go (some r) e = cc
+
+-- ---- and so are the numbers of a row
+
+-- an implied index is below 4
 abbrev pub impliedFew : Format → Bool
 impliedFew alone = true
 impliedFew (implied n) = ltb n 4
@@ -28,46 +56,29 @@ impliedFew table = true
 impliedFew pairs = true
 impliedFew widened = true
 
-fitting : Row → Bool
-fitting r =
-    ltb (lengthOf (r .format)) 256 && ltb (placesOf (r .rule .takes)) 16 && ltb (placesOf (r .rule .gives)) 16 && ltb (placesOf (r .rule .locals)) 16
-    && ltb (formatOf (r .format)) 16 && impliedFew (r .format)
+few-implied : (n : ℕ) → OfRow (λ r. impliedFew (r .format)) (λ r. true) (rowOf n)
+unfolding instructions
+few-implied n = every-row (λ r. impliedFew (r .format)) (λ r. true) refl n
 
-fitting-row : (n : ℕ) → OfRow fitting (λ r. true) (rowOf n)
-unfolding instructions fitting
-fitting-row n = every-row fitting (λ r. true) refl n
-
-pub record Digits (r : Row) : Type 0 where
+-- what an entry's bytes say of its row
+pub record EntryBytes (r : Row) : Type 0 where
+  pub format : formatIn (entryOf (some r)) ≡ formatOf (r .format)
+  pub shared : sharedIn (entryOf (some r)) ≡ sharedOf r
+  pub locals : localsIn (entryOf (some r)) ≡ placesOf (r .rule .locals)
   pub length : lengthIn (entryOf (some r)) ≡ lengthOf (r .format)
   pub pops : popsIn (entryOf (some r)) ≡ placesOf (r .rule .takes)
   pub pushes : pushesIn (entryOf (some r)) ≡ placesOf (r .rule .gives)
-  pub locals : localsIn (entryOf (some r)) ≡ placesOf (r .rule .locals)
-  pub format : formatIn (entryOf (some r)) ≡ formatOf (r .format)
-  pub shared : sharedIn (entryOf (some r)) ≡ sharedOf r
   pub few : impliedFew (r .format) ≡ true
 
-digits-of : (r : Row) → fitting r ≡ true → Digits r
-unfolding fitting entryOf
-digits-of r e =
-    let a = and-true _ (impliedFew (r .format)) e in
-    let b = and-true _ (ltb (formatOf (r .format)) 16) (a .0) in
-    let c = and-true _ (ltb (placesOf (r .rule .locals)) 16) (b .0) in
-    let d = and-true _ (ltb (placesOf (r .rule .gives)) 16) (c .0) in
-    let f = and-true (ltb (lengthOf (r .format)) 256) (ltb (placesOf (r .rule .takes)) 16) (d .0) in
-    let l = ltb-true (lengthOf (r .format)) 256 (f .0) in
-    let p = ltb-true (placesOf (r .rule .takes)) 16 (f .1) in
-    let u = ltb-true (placesOf (r .rule .gives)) 16 (d .1) in
-    let k = ltb-true (placesOf (r .rule .locals)) 16 (c .1) in
-    let m = ltb-true (formatOf (r .format)) 16 (b .1) in
+pub entry-bytes : (n : ℕ) (r : Row) → rowOf n ≡ some r → EntryBytes r
+entry-bytes n r e =
+    let read : bytesIn (entryOf (some r)) ≡ numbersOf (some r) = subst (λ (o : Option Row). bytesIn (entryOf o) ≡ numbersOf o) e (table-rule n (below-256 n r e)) in
     record {
-      length = omega arith;
-      pops = omega arith;
-      pushes = omega arith;
-      locals = omega arith;
-      format = omega arith;
-      shared = omega arith;
-      few = a .1;
+      format = cc;
+      shared = cc;
+      locals = cc;
+      length = cc;
+      pops = cc;
+      pushes = cc;
+      few = of-row (λ r. impliedFew (r .format)) (λ r. true) (rowOf n) r (few-implied n) e;
     }
-
-pub digits : (n : ℕ) (r : Row) → rowOf n ≡ some r → Digits r
-digits n r e = digits-of r (of-row fitting (λ r. true) (rowOf n) r (fitting-row n) e)

@@ -1,17 +1,17 @@
 -- The stages of decoding, on the entry of a row, give what questions 4 and 5 give. Assumes nothing.
-use Prim.Native.Nat.{ℕ, zero, suc, _+_, _<_}
+use Prim.Native.Nat.{ℕ, zero, suc, _+_, _*_, _<_}
 use mathlib.Core.Path.{_≡_, refl, sym, ap, ap₂, _∙_}
 use mathlib.Core.Bool.{Bool, true, false, cond}
 use mathlib.Core.List.{List, [], map}
 use mathlib.Core.Option.{Option, none, some}
 use native.Mathlib.Omega.{arith}
 use lib.IntN.{ℤ, pos}
-use lib.Dec.{leb, lit≤}
+use lib.Dec.{leb, eqb, lit≤}
 use lib.ListN.{length}
-use borrow.Author.Tests.{ltb-true}
+use borrow.Author.Tests.{ltb-true, eq-eqb, ne-eqb}
 use Rattle.values.specs.Integers.{low}
 use Rattle.rules.specs.Check.{Check, passed, _else_, _>>_}
-use Rattle.rules.specs.Forms.{Row, Operand, Format, alone, implied, byte, short, index, index2, index-const, branch, branch4, table, pairs, widened}
+use Rattle.rules.specs.Forms.{Row, Operand, Format, alone, implied, byte, short, index, index2, index-const, branch, branch4, table, pairs, widened, lengthOf}
 use Rattle.rules.specs.Instructions.{rowOf}
 use Rattle.rules.specs.Fetch.{Instruction, instruction, operands, u8, u16, s16, widens, wideOpcode, sized, tableCheck, lookupCheck, wideCheck, byFormat, fetched}
 use Rattle.rules.proofs.Rows.{own-opcode, upTo, agree, isSome}
@@ -20,10 +20,10 @@ use Rattle.operands.specs.declared.switches.Switch.{Switch}
 use Rattle.operands.specs.Switch.{switchOf}
 use Rattle.instructions.specs.declared.decoding.Decoded.{Decoded}
 use Rattle.instructions.specs.declared.decoding.Decoded.the-variants as Decoded
-use Rattle.instructions.specs.Table.{lengthOf, formatOf, entryOf, lengthIn, formatIn}
+use Rattle.instructions.specs.Table.{formatOf, entryOf, lengthIn, formatIn}
 use Rattle.instructions.specs.Decode.{decoded}
 use Rattle.instructions.specs.Stages.{fields, fieldsOf, sizedOf, switchDecoded}
-use Rattle.instructions.proofs.Entries.{digits, impliedFew}
+use Rattle.instructions.proofs.Entries.{entry-bytes, impliedFew}
 
 -- what an instruction's format makes of its entry e: a length and operands, a table, pairs, or what follows WIDE
 data Class (code : List ℕ) (pc e : ℕ) (r : Row) (f : Format) : Type 0 where
@@ -89,7 +89,7 @@ module _ (code : List ℕ) (pc e : ℕ) (r : Row) (E : entryOf (rowOf (r .opcode
   class pairs w = of-pairs refl refl lookup-is
   class widened w = of-wide refl refl
 
--- ---- what the digits of the entry at an offset say of the instruction there
+-- ---- what the bytes of the entry at an offset say of the instruction there
 
 module _ (code : List ℕ) (pc : ℕ) where
   abbrev pub here : ℕ
@@ -110,7 +110,7 @@ module _ (code : List ℕ) (pc : ℕ) where
       go : (o : Option Row) → rowOf (u8 code pc) ≡ o → P
       go none e = outside e
       go (some r) e =
-          let d = digits (u8 code pc) r e in
+          let d = entry-bytes (u8 code pc) r e in
           inside r (record {
             at = e;
             class-of = class code pc here r (owned r e) (r .format) (d .few);
@@ -179,31 +179,47 @@ module _ (code : List ℕ) (pc : ℕ) where
 
 -- ---- WIDE
 
--- what WIDE takes is core: computed over all 256
-widened-core : map (λ n. cond (widens n) (isSome (rowOf n)) true) (upTo 256) ≡ map (λ n. true) (upTo 256)
-unfolding rowOf
-widened-core = refl
+-- what WIDE takes is core, and half as long by itself: computed over all 256
+abbrev wideLength : ℕ → ℕ
+wideLength n = cond (eqb n 132) 6 4
+
+abbrev foundWide : ℕ → (Bool × ℕ)
+foundWide n = cond (widens n) (isSome (rowOf n), 2 * lengthIn (entryOf (rowOf n))) (true, 0)
+
+abbrev expectedWide : ℕ → (Bool × ℕ)
+expectedWide n = cond (widens n) (true, wideLength n) (true, 0)
+
+wide-all : map foundWide (upTo 256) ≡ map expectedWide (upTo 256)
+unfolding entryOf rowOf
+wide-all = refl
 
 module _ (code : List ℕ) (pc : ℕ) (there : pc + 1 < length code) (allowed : widens (wideOpcode code pc) ≡ true) (B : wideOpcode code pc < 256) where
+  abbrev row-there : ℕ
+  row-there = entryOf (rowOf (wideOpcode code pc))
+
+  both : _≡_ {A = Bool × ℕ} (isSome (rowOf (wideOpcode code pc)), 2 * lengthIn row-there) (true, wideLength (wideOpcode code pc))
+  both = rw allowed at (agree foundWide expectedWide 256 wide-all (wideOpcode code pc) B)
+
   wide-row : (P : Type 0) → ((r : Row) → rowOf (wideOpcode code pc) ≡ some r → P) → P
   wide-row P k = go (rowOf (wideOpcode code pc)) refl
     where
-      core : isSome (rowOf (wideOpcode code pc)) ≡ true
-      core = rw allowed at (agree (λ n. cond (widens n) (isSome (rowOf n)) true) (λ n. true) 256 widened-core (wideOpcode code pc) B)
-
       go : (o : Option Row) → rowOf (wideOpcode code pc) ≡ o → P
-      go none e = let z : false ≡ true = ap isSome (sym e) ∙ core in let y : _≡_ {A = ℕ} 0 1 = cc in absurd (omega arith)
+      go none e = let z : false ≡ true = ap isSome (sym e) ∙ ap (λ (p : Bool × ℕ). p .0) both in let y : _≡_ {A = ℕ} 0 1 = cc in absurd (omega arith)
       go (some r) e = k r e
 
+  -- an instruction of n bytes is of twice the entry's length
+  doubled : (n : ℕ) (o : Operand) → wideLength (wideOpcode code pc) ≡ n → ((r : Row) → rowOf (wideOpcode code pc) ≡ some r → wideCheck code pc ≡ sized code pc r n o)
+      → sizedOf code pc row-there (2 * lengthIn row-there) (fields (o .index) (low 32 (o .constant))) ≡ decoded (wideCheck code pc)
+  doubled n o l k = wide-row _ (λ r e.
+      ap (λ (m : ℕ). sizedOf code pc row-there m (fields (o .index) (low 32 (o .constant)))) (ap (λ (p : Bool × ℕ). p .1) both ∙ l)
+      ∙ sized-is code pc row-there r (ap (λ (m : ℕ). entryOf (rowOf m)) (own-opcode (wideOpcode code pc) r e)) n o
+      ∙ ap decoded (sym (k r e)))
+
   pub wide-increment : wideOpcode code pc ≡ 132
-      → sizedOf code pc (entryOf (rowOf (wideOpcode code pc))) 6 (fields (u16 code (pc + 2)) (low 32 (s16 code (pc + 4)))) ≡ decoded (wideCheck code pc)
-  wide-increment h = wide-row _ (λ r e.
-      sized-is code pc (entryOf (rowOf (wideOpcode code pc))) r (ap (λ (n : ℕ). entryOf (rowOf n)) (own-opcode (wideOpcode code pc) r e)) 6 (operands (u16 code (pc + 2)) (s16 code (pc + 4)) [])
-      ∙ ap decoded (sym (wide-iinc code pc there allowed r e h)))
+      → sizedOf code pc row-there (2 * lengthIn row-there) (fields (u16 code (pc + 2)) (low 32 (s16 code (pc + 4)))) ≡ decoded (wideCheck code pc)
+  wide-increment h = doubled 6 (operands (u16 code (pc + 2)) (s16 code (pc + 4)) []) (rw (eq-eqb _ 132 h)) (λ r e. wide-iinc code pc there allowed r e h)
 
   pub wide-other : (wideOpcode code pc ≡ 132 → ⊥)
-      → sizedOf code pc (entryOf (rowOf (wideOpcode code pc))) 4 (fields (u16 code (pc + 2)) 0) ≡ decoded (wideCheck code pc)
+      → sizedOf code pc row-there (2 * lengthIn row-there) (fields (u16 code (pc + 2)) 0) ≡ decoded (wideCheck code pc)
   unfolding low
-  wide-other h = wide-row _ (λ r e.
-      sized-is code pc (entryOf (rowOf (wideOpcode code pc))) r (ap (λ (n : ℕ). entryOf (rowOf n)) (own-opcode (wideOpcode code pc) r e)) 4 (operands (u16 code (pc + 2)) (pos 0) [])
-      ∙ ap decoded (sym (wide-local code pc there allowed r e h)))
+  wide-other h = doubled 4 (operands (u16 code (pc + 2)) (pos 0) []) (rw (ne-eqb _ 132 h)) (λ r e. wide-local code pc there allowed r e h)

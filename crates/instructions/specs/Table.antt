@@ -5,22 +5,7 @@ use mathlib.Core.List.{List, [], _∷_}
 use mathlib.Core.Option.{Option, none, some}
 use lib.Dec.{leb, eqb}
 use Rattle.values.specs.Kinds.{placesOf}
-use Rattle.rules.specs.Forms.{Row, Format, alone, implied, byte, short, index, index2, index-const, branch, branch4, table, pairs, widened}
-
--- the length in bytes: 0 marks a switch, 254 WIDE
-abbrev pub lengthOf : Format → ℕ
-lengthOf alone = 1
-lengthOf (implied n) = 1
-lengthOf byte = 2
-lengthOf short = 3
-lengthOf index = 2
-lengthOf index2 = 3
-lengthOf index-const = 3
-lengthOf branch = 3
-lengthOf branch4 = 5
-lengthOf table = 0
-lengthOf pairs = 0
-lengthOf widened = 254
+use Rattle.rules.specs.Forms.{Row, Format, alone, implied, byte, short, index, index2, index-const, branch, branch4, table, pairs, widened, lengthOf}
 
 -- how the operand bytes are read: 1 to 4 is an implied index, 0 to 3; a constant of 16 bits and a branch are read alike
 abbrev pub formatOf : Format → ℕ
@@ -53,32 +38,33 @@ sharedOf r =
     (cond (between 54 78 n) (53 + placesOf (r .rule .locals))
     (cond (eqb n 17) 16 (cond (eqb n 19) 18 (cond (eqb n 200) 167 n))))
 
--- the digits of an entry in hexadecimal, from the right: the length (two digits, FF for an opcode outside the core), the places popped, the
--- places pushed, the places of the local, the format, the shared opcode (two digits)
+-- the bytes of an entry, from the left: the format, the shared opcode, the places of the local; the length, the places popped, the places pushed
 abbrev pub packed : ℕ → ℕ → ℕ → ℕ → ℕ → ℕ → ℕ
-packed length pops pushes locals format shared = length + 0x100 * pops + 0x1000 * pushes + 0x10000 * locals + 0x100000 * format + 0x1000000 * shared
+packed format shared locals length popped pushed =
+    0x10000000000 * format + 0x100000000 * shared + 0x1000000 * locals + 0x10000 * length + 0x100 * popped + pushed
 
+-- an opcode outside the core has the length 255
 unfoldable pub entryOf : Option Row → ℕ
-entryOf none = 255
+entryOf none = packed 0 0 0 255 0 0
 entryOf (some r) =
-    packed (lengthOf (r .format)) (placesOf (r .rule .takes)) (placesOf (r .rule .gives)) (placesOf (r .rule .locals)) (formatOf (r .format)) (sharedOf r)
+    packed (formatOf (r .format)) (sharedOf r) (placesOf (r .rule .locals)) (lengthOf (r .format)) (placesOf (r .rule .takes)) (placesOf (r .rule .gives))
 
--- the digits read back
-
-abbrev pub lengthIn : ℕ → ℕ
-lengthIn entry = entry % 0x100
-
-abbrev pub popsIn : ℕ → ℕ
-popsIn entry = entry / 0x100 % 16
-
-abbrev pub pushesIn : ℕ → ℕ
-pushesIn entry = entry / 0x1000 % 16
-
-abbrev pub localsIn : ℕ → ℕ
-localsIn entry = entry / 0x10000 % 16
+-- the bytes read back
 
 abbrev pub formatIn : ℕ → ℕ
-formatIn entry = entry / 0x100000 % 16
+formatIn entry = entry / 0x10000000000 % 0x100
 
 abbrev pub sharedIn : ℕ → ℕ
-sharedIn entry = entry / 0x1000000
+sharedIn entry = entry / 0x100000000 % 0x100
+
+abbrev pub localsIn : ℕ → ℕ
+localsIn entry = entry / 0x1000000 % 0x100
+
+abbrev pub lengthIn : ℕ → ℕ
+lengthIn entry = entry / 0x10000 % 0x100
+
+abbrev pub popsIn : ℕ → ℕ
+popsIn entry = entry / 0x100 % 0x100
+
+abbrev pub pushesIn : ℕ → ℕ
+pushesIn entry = entry % 0x100

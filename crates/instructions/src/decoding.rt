@@ -15,15 +15,10 @@ ghost use Rattle.rules.specs.Fetch.{fetched, widens, wideCheck};
 ghost use Rattle.instructions.specs.Decode.{decoded};
 ghost use Rattle.instructions.specs.Stages.{fieldsOf, sizedOf, switchDecoded};
 
-// The lengths of what WIDE takes: with an index of 16 bits, and with a constant of 16 bits too.
-const WIDE_LENGTH: usize = 4;
-
-const WIDE_IINC_LENGTH: usize = 6;
-
 // An instruction, or the number of the question that refuses it.
 pub enum Decoded {
     Instruction {
-        entry: u32,
+        entry: u64,
         size: usize,
         index: u32,
         constant: u32,
@@ -80,8 +75,8 @@ fn operand_fields(code: &[u8], pc: u32, format: u32) -> Fields
 }
 
 // An instruction of a length in bytes, if they are there.
-fn sized(code: &[u8], pc: u32, entry: u32, size: usize, fields: Fields) -> Decoded
-    requires { ⌜ size < 256 ⌝ }
+fn sized(code: &[u8], pc: u32, entry: u64, size: usize, fields: Fields) -> Decoded
+    requires { ⌜ size < 512 ⌝ }
     ensures { λ r. ⌜ r ≡ sizedOf (now (code .entry)) pc entry size fields ⌝ }
 {
     if code.len() < pc as usize + size {
@@ -114,7 +109,7 @@ fn is_widened(opcode: u8) -> bool
     opcode == IINC
 }
 
-// WIDE: an instruction with its operands at twice the size.
+// WIDE: an instruction with its operands at twice the size, and with WIDE itself twice as long.
 fn wide(code: &[u8], pc: u32) -> Decoded
     ensures { λ r. ⌜ r ≡ decoded (wideCheck (now (code .entry)) pc) ⌝ }
 {
@@ -128,15 +123,16 @@ fn wide(code: &[u8], pc: u32) -> Decoded
     }
     let index = read_code_u16(code, at + 2) as u32;
     let row = entry(opcode);
+    let size = 2 * length_in(row) as usize;
     if opcode == IINC {
         let constant = read_code_i16(code, at + 4);
-        return sized(code, pc, row, WIDE_IINC_LENGTH, Fields { index, constant });
+        return sized(code, pc, row, size, Fields { index, constant });
     }
-    sized(code, pc, row, WIDE_LENGTH, Fields { index, constant: 0 })
+    sized(code, pc, row, size, Fields { index, constant: 0 })
 }
 
 // An accepted switch as an instruction.
-fn switched(entry: u32, switch: Switch) -> Decoded
+fn switched(entry: u64, switch: Switch) -> Decoded
     ensures { λ r. ⌜ r ≡ switchDecoded entry switch ⌝ }
 {
     match switch {

@@ -25,7 +25,7 @@ use Rattle.rules.proofs.Step.{result, decided}
 use Rattle.operands.specs.Target.{targetOf}
 use Rattle.operands.specs.Switch.{offsetIn, tableOffset, lookupOffset}
 use Rattle.instructions.specs.Table.{isIn, sharedOf, entryOf, sharedIn}
-use Rattle.instructions.proofs.Entries.{digits}
+use Rattle.instructions.proofs.Entries.{entry-bytes}
 use Rattle.effects.specs.declared.outcome.Effect.{Effect}
 use Rattle.effects.specs.declared.outcome.Effect.the-variants as Effect
 use Rattle.effects.specs.Effects.{six, effectOf, effectAt}
@@ -82,7 +82,7 @@ locatedAt s i first depth = locatedOf (entryAt i) (i .operand .index) (low 32 (i
 
 module _ (l : Method) (s : State) (i : Instruction) (f : Sound (l .code) (s .pc) i) where
   pub shared-is : sharedIn (entryAt i) ≡ sharedOf (f .row)
-  shared-is = rw (f .found) (digits (i .opcode) (f .row) (f .found) .shared)
+  shared-is = rw (f .found) (entry-bytes (i .opcode) (f .row) (f .found) .shared)
 
   pub listed : isIn sharedOpcodes (sharedIn (entryAt i)) ≡ true
   listed = rw shared-is (shared-listed (i .opcode) (f .row) (f .found))

@@ -49,7 +49,7 @@ fn is_store(op: u8) -> bool
 
 // An instruction of an entry of the table, with its operands, the offset after it and its place on the stack.
 pub(crate) fn locate(
-    entry: u32,
+    entry: u64,
     index: u32,
     constant: u32,
     next: usize,

@@ -5,9 +5,9 @@ use mathlib.Core.Bool.{Bool, true, false, _&&_, _||_, cond}
 use mathlib.Core.List.{List, [], _∷_, map}
 use mathlib.Core.Option.{Option, none, some}
 use native.Mathlib.Omega.{arith}
-use lib.Dec.{leb, eqb}
+use lib.Dec.{leb, ltb, eqb}
 use lib.ListN.{length, getD, take}
-use borrow.Author.Tests.{eqb-true, eqb-false, leb-true}
+use borrow.Author.Tests.{eqb-true, eqb-false, leb-true, ltb-true}
 use Rattle.values.specs.Kinds.{Kind, places, placesOf}
 use Rattle.rules.specs.Forms.{Row, Rule, Operand, Result, pushes, stores, divides, branches, returns, Source, stack, local, pool, Format, alone, implied, byte, short, index, index2, index-const, branch, branch4, table, pairs, widened}
 use Rattle.rules.specs.Instructions.{instructions, rowIn, rowOf}
@@ -56,6 +56,15 @@ own n (r ∷ rs) = go (own n rs) (eqb n (r .opcode)) refl
 pub own-opcode : (n : ℕ) (r : Row) → rowOf n ≡ some r → r .opcode ≡ n
 unfolding rowOf Own
 own-opcode n r e = subst (Own n) e (own n instructions)
+
+belowBound : Row → Bool
+belowBound r = ltb (r .opcode) 256
+
+pub below-256 : (n : ℕ) (r : Row) → rowOf n ≡ some r → n < 256
+unfolding instructions belowBound
+below-256 n r e =
+    let l = ltb-true (r .opcode) 256 (of-row belowBound (λ r. true) (rowOf n) r (every-row belowBound (λ r. true) refl n) e) in
+    rw (own-opcode n r e) at l
 
 -- at most six words pushed, at most one local named
 abbrev fewLocals : List Kind → Bool

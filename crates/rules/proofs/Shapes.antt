@@ -5,12 +5,13 @@ use mathlib.Core.Path.{_≡_, refl}
 use mathlib.Core.Bool.{Bool, false, _&&_, _||_, cond}
 use mathlib.Core.List.{List, [], _∷_, map}
 use mathlib.Core.Option.{Option, none, some}
-use lib.Dec.{leb}
+use lib.Dec.{leb, eqb}
 use lib.ListN.{replicate}
 use Rattle.values.specs.Kinds.{Kind, int, long, float, double, reference, any}
 use Rattle.rules.specs.Check.{Check, passed, refused, _else_, _>>_, _>>=_}
 use Rattle.rules.specs.Forms.{Row}
 use Rattle.rules.specs.Instructions.{rowOf}
+use Rattle.rules.specs.OpcodePage.{lineOf}
 use Rattle.rules.specs.Fetch.{Instruction, fetched, wideCheck, tableCheck, lookupCheck, pairsFrom}
 use Rattle.values.specs.Integers.{signed}
 use Rattle.rules.proofs.Rows.{upTo}
@@ -129,7 +130,7 @@ named-all : map (λ n. nothingNamed (shapeIn named n)) (upTo 256) ≡ map (λ n.
 unfolding rowOf
 named-all = refl
 
--- ---- the length of the instruction at offset 0, zeros following: a TABLESWITCH then has one entry and a LOOKUPSWITCH no pair
+-- ---- the lengths of the page of opcodes
 
 record Length : Type 0 where
   size : ℕ
@@ -144,19 +145,28 @@ lengths =
     bytes 2 (16 to 16 ∷ 18 to 18 ∷ 21 to 25 ∷ 54 to 58 ∷ []) ∷
     bytes 3 (17 to 17 ∷ 19 to 20 ∷ 132 to 132 ∷ 153 to 167 ∷ 198 to 199 ∷ []) ∷
     bytes 5 (200 to 200 ∷ []) ∷
-    bytes 20 (170 to 170 ∷ []) ∷
-    bytes 12 (171 to 171 ∷ []) ∷
+    bytes 0 (170 to 171 ∷ []) ∷
+    bytes 254 (196 to 196 ∷ []) ∷
     []
 
 abbrev lengthIn : List Length → ℕ → ℕ
-lengthIn [] n = 0
+lengthIn [] n = 255
 lengthIn (l ∷ ls) n = cond (isIn (l .opcodes) n) (l .size) (lengthIn ls n)
 
--- 0 where question 4 or 5 refuses it, as it does an opcode outside the core, and a WIDE before a NOP
+lengths-all : map (lengthIn lengths) (upTo 256) ≡ map (λ n. lineOf n .length) (upTo 256)
+unfolding lineOf rowOf
+lengths-all = refl
+
+-- ---- what is fetched at offset 0, zeros following, is so long: a TABLESWITCH with one entry, a LOOKUPSWITCH with no pair
+
+-- 0 where question 4 or 5 refuses it, as it does a WIDE before a NOP
 abbrev sizeOf : Check Instruction → ℕ
 sizeOf (passed i) = i .size
 sizeOf (refused n) = 0
 
-lengths-all : map (lengthIn lengths) (upTo 256) ≡ map (λ n. sizeOf (fetched (n ∷ replicate 31 0) 0)) (upTo 256)
+abbrev sizeBy : ℕ → ℕ
+sizeBy n = cond (eqb n 170) 20 (cond (eqb n 171) 12 (cond (leb 254 (lengthIn lengths n)) 0 (lengthIn lengths n)))
+
+sizes-all : map sizeBy (upTo 256) ≡ map (λ n. sizeOf (fetched (n ∷ replicate 31 0) 0)) (upTo 256)
 unfolding rowOf fetched wideCheck tableCheck lookupCheck pairsFrom _else_ _>>_ _>>=_ signed
-lengths-all = refl
+sizes-all = refl

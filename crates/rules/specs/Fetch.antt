@@ -7,7 +7,7 @@ use lib.IntN.{ℤ, pos, _+ℤ_, _-ℤ_, natAbs}
 use lib.ListN.{length, getD}
 use Rattle.values.specs.Integers.{signed, _<ᶻ_, _≤ᶻ_}
 use Rattle.rules.specs.Check.{Check, passed, refused, _else_, _>>=_, _>>_, _≤ⁿ_, _<ⁿ_, _=ⁿ_}
-use Rattle.rules.specs.Forms.{Row, Rule, Operand, Format, alone, implied, byte, short, index, index2, index-const, branch, branch4, table, pairs, widened}
+use Rattle.rules.specs.Forms.{Row, Rule, Operand, Format, alone, implied, byte, short, index, index2, index-const, branch, branch4, table, pairs, widened, lengthOf}
 use Rattle.rules.specs.Instructions.{rowOf}
 
 -- ---- the bytes of the code, big-endian; past its end they read as 0, and question 5 comes before any use of that
@@ -150,15 +150,15 @@ lookupCheck code pc r = do
 -- ---- every format
 
 abbrev pub byFormat : List ℕ → ℕ → Row → Format → Check Instruction
-byFormat code pc r alone = sized code pc r 1 (operands 0 (pos 0) [])
-byFormat code pc r (implied n) = sized code pc r 1 (operands n (pos 0) [])
-byFormat code pc r byte = sized code pc r 2 (operands 0 (s8 code (pc + 1)) [])
-byFormat code pc r short = sized code pc r 3 (operands 0 (s16 code (pc + 1)) [])
-byFormat code pc r index = sized code pc r 2 (operands (u8 code (pc + 1)) (pos 0) [])
-byFormat code pc r index2 = sized code pc r 3 (operands (u16 code (pc + 1)) (pos 0) [])
-byFormat code pc r index-const = sized code pc r 3 (operands (u8 code (pc + 1)) (s8 code (pc + 2)) [])
-byFormat code pc r branch = sized code pc r 3 (operands 0 (s16 code (pc + 1)) [])
-byFormat code pc r branch4 = sized code pc r 5 (operands 0 (s32 code (pc + 1)) [])
+byFormat code pc r alone = sized code pc r (lengthOf alone) (operands 0 (pos 0) [])
+byFormat code pc r (implied n) = sized code pc r (lengthOf (implied n)) (operands n (pos 0) [])
+byFormat code pc r byte = sized code pc r (lengthOf byte) (operands 0 (s8 code (pc + 1)) [])
+byFormat code pc r short = sized code pc r (lengthOf short) (operands 0 (s16 code (pc + 1)) [])
+byFormat code pc r index = sized code pc r (lengthOf index) (operands (u8 code (pc + 1)) (pos 0) [])
+byFormat code pc r index2 = sized code pc r (lengthOf index2) (operands (u16 code (pc + 1)) (pos 0) [])
+byFormat code pc r index-const = sized code pc r (lengthOf index-const) (operands (u8 code (pc + 1)) (s8 code (pc + 2)) [])
+byFormat code pc r branch = sized code pc r (lengthOf branch) (operands 0 (s16 code (pc + 1)) [])
+byFormat code pc r branch4 = sized code pc r (lengthOf branch4) (operands 0 (s32 code (pc + 1)) [])
 byFormat code pc r table = tableCheck code pc r
 byFormat code pc r pairs = lookupCheck code pc r
 byFormat code pc r widened = wideCheck code pc

@@ -151,6 +151,21 @@ pub data Format : Type 0 where
   pairs : Format  -- lookupswitch
   widened : Format  -- wide: an opcode, and its operands at twice the size
 
+-- the length in bytes with the opcode; 0 marks a switch and 254 WIDE, whose lengths the code says (document 02, request 02)
+abbrev pub lengthOf : Format → ℕ
+lengthOf alone = 1
+lengthOf (implied n) = 1
+lengthOf byte = 2
+lengthOf short = 3
+lengthOf index = 2
+lengthOf index2 = 3
+lengthOf index-const = 3
+lengthOf branch = 3
+lengthOf branch4 = 5
+lengthOf table = 0
+lengthOf pairs = 0
+lengthOf widened = 254
+
 -- ---- a row of the table
 
 pub record Row : Type 0 where

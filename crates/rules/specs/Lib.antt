@@ -1,6 +1,7 @@
 pub mod Check
 pub mod Forms
 pub mod Instructions
+pub mod OpcodePage
 pub mod Fetch
 pub mod Questions
 pub mod Descriptor

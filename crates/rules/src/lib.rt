@@ -1,6 +1,15 @@
 // The types that the rules speak of; the rules themselves are in specs/.
 use values::Value;
 
+// A line of the page of opcodes: an opcode, its length in bytes, and the places that it pops and pushes. Length 0 marks a switch, 254 WIDE and 255 an opcode outside
+// the core.
+pub struct OpcodeLine {
+    pub opcode: u8,
+    pub length: u32,
+    pub popped: u32,
+    pub pushed: u32,
+}
+
 // Where a method stands: its two sizes, the program counter, the operand stack's depth, how many steps can be taken back, and the method's return type, a character
 // of its descriptor; a number that is no return type's counts as 0. In this order of its fields a state has 24 bytes, and none that pads it.
 pub struct State {

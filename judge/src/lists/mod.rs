@@ -14,6 +14,7 @@ pub mod sheets;
 pub mod text;
 pub mod traces;
 
+use crate::opcode_page::page;
 use std::fs;
 use std::path::Path;
 
@@ -27,6 +28,7 @@ pub fn files(root: &Path) -> Result<Vec<File>, String> {
     let facts = fs::read_to_string(&facts).map_err(|what| format!("facts.txt: {what}"))?;
     let sample_methods = methods::samples(&facts)?;
     let mut add = |path: &str, made: Vec<u8>| files.push((path.to_string(), made));
+    add("crates/opcode_page/stdout", page().into_bytes());
     add("crates/decoding_vectors/stdin", decoding::stdin()?);
     add("crates/step_traces/stdin", methods::stdin(&sample_methods)?);
     add(

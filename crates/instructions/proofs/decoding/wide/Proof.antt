@@ -1,17 +1,42 @@
 -- `wide` meets its contract. Assumes nothing.
-use Prim.Native.Nat.{ℕ, _<_}
+use Prim.Native.Nat.{ℕ, _*_, _<_}
+use mathlib.Core.Bool.{true}
 use mathlib.Core.Path.{_≡_, refl, sym, ap, _∙_}
+use mathlib.Core.List.{List}
 use native.Mathlib.Omega.{arith}
 use borrow.Author.Tests.{not-true, not-false}
 use Rattle.rules.specs.Instructions.{rowOf}
 use Rattle.rules.specs.Fetch.{widens, wideOpcode}
 use Rattle.rules.proofs.Questions.{wide-cut, wide-not-allowed}
-use Rattle.instructions.specs.Table.{entryOf}
+use Rattle.instructions.specs.Table.{entryOf, lengthIn}
 use Rattle.instructions.specs.Decode.{decoded}
 use Rattle.instructions.proofs.Fetching.{wide-increment, wide-other}
 use borrow.Author.Needs.{needs}
 use Rattle.instructions.proofs.decoding.wide.Statement.{statement}
 use Rattle.instructions.proofs.decoding.wide.Tie as tie
+
+-- what is known once the length is read
+module _ (c : tie.After-length-in) where
+  abbrev code : List ℕ
+  code = c .before .before .before .before .before .before .before .before .args .code .now
+
+  abbrev pc : ℕ
+  pc = c .before .before .before .before .before .before .before .before .args .pc
+
+  read : c .before .before .before .before .before .read-code-u8 .result ≡ wideOpcode code pc
+  read = c .before .before .before .before .before .read-code-u8 .ensures
+
+  allowed : widens (wideOpcode code pc) ≡ true
+  allowed = sym (ap widens read) ∙ sym (c .before .before .before .before .is-widened .ensures) ∙ not-false (c .before .before .before .before .is-widened .result) (c .before .before .before .if2 .left)
+
+  below : wideOpcode code pc < 256
+  below = rw (← read) (omega (arith, c .before .before .before .before .before .read-code-u8 .ok))
+
+  row : c .before .entry .result ≡ entryOf (rowOf (wideOpcode code pc))
+  row = c .before .entry .ensures ∙ ap (λ (n : ℕ). entryOf (rowOf n)) read
+
+  long : c .length-in .result ≡ lengthIn (entryOf (rowOf (wideOpcode code pc)))
+  long = c .length-in .ensures ∙ ap lengthIn row
 
 add-if1 : tie.Need-add-if1
 add-if1 c = search needs
@@ -48,6 +73,15 @@ cast-index c = search needs
 entry-requires : tie.Need-entry-requires
 entry-requires c κs = search needs
 
+length-in-requires : tie.Need-length-in-requires
+length-in-requires c κs = search needs
+
+cast-size : tie.Need-cast-size
+cast-size c = search needs
+
+mul-size : tie.Need-mul-size
+mul-size c = search needs
+
 add-read-code-i16 : tie.Need-add-read-code-i16
 add-read-code-i16 c = search needs
 
@@ -59,26 +93,16 @@ sized-requires c κs = search needs
 
 returns-3 : tie.Need-returns-3
 returns-3 c =
-    let a = c .before .before .before .before .before .before .before .before .before .before .args in
-    let read = c .before .before .before .before .before .before .before .read-code-u8 .ensures in
-    let allowed = sym (ap widens read) ∙ sym (c .before .before .before .before .before .before .is-widened .ensures) ∙ not-false (c .before .before .before .before .before .before .is-widened .result) (c .before .before .before .before .before .if2 .left) in
-    let below : wideOpcode (a .code .now) (a .pc) < 256 = rw (← read) (omega (arith, c .before .before .before .before .before .before .before .read-code-u8 .ok)) in
-    let row : c .before .before .before .entry .result ≡ entryOf (rowOf (wideOpcode (a .code .now) (a .pc))) = c .before .before .before .entry .ensures ∙ ap (λ (n : ℕ). entryOf (rowOf n)) read in
-    c .sized .ensures ∙ rw (row, c .before .before .before .before .read-code-u16 .ensures, c .before .read-code-i16 .ensures) refl
-    ∙ wide-increment (a .code .now) (a .pc) (c .before .before .before .before .before .before .before .before .if1 .left) allowed below (sym read ∙ c .before .before .if3 .taken)
+    let k = c .before .before .before in
+    cc (row k, long k, wide-increment (code k) (pc k) (k .before .before .before .before .before .before .if1 .left) (allowed k) (below k) (sym (read k) ∙ c .before .before .if3 .taken))
 
 sized-requires-2 : tie.Need-sized-requires-2
 sized-requires-2 c κs = search needs
 
 returns-4 : tie.Need-returns-4
 returns-4 c =
-    let a = c .before .before .before .before .before .before .before .before .before .args in
-    let read = c .before .before .before .before .before .before .read-code-u8 .ensures in
-    let allowed = sym (ap widens read) ∙ sym (c .before .before .before .before .before .is-widened .ensures) ∙ not-false (c .before .before .before .before .before .is-widened .result) (c .before .before .before .before .if2 .left) in
-    let below : wideOpcode (a .code .now) (a .pc) < 256 = rw (← read) (omega (arith, c .before .before .before .before .before .before .read-code-u8 .ok)) in
-    let row : c .before .before .entry .result ≡ entryOf (rowOf (wideOpcode (a .code .now) (a .pc))) = c .before .before .entry .ensures ∙ ap (λ (n : ℕ). entryOf (rowOf n)) read in
-    c .sized2 .ensures ∙ rw (row, c .before .before .before .read-code-u16 .ensures) refl
-    ∙ wide-other (a .code .now) (a .pc) (c .before .before .before .before .before .before .before .if1 .left) allowed below (λ z. c .before .if3 .left (read ∙ z))
+    let k = c .before .before in
+    cc (row k, long k, wide-other (code k) (pc k) (k .before .before .before .before .before .before .if1 .left) (allowed k) (below k) (λ z. c .before .if3 .left (read k ∙ z)))
 
 pub wide-spec : {M : Type 1} → statement M
 wide-spec =
@@ -94,6 +118,9 @@ wide-spec =
     read-code-u16-requires
     cast-index
     entry-requires
+    length-in-requires
+    cast-size
+    mul-size
     add-read-code-i16
     read-code-i16-requires
     sized-requires
