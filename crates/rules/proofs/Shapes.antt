@@ -1,4 +1,4 @@
--- The operand stack before and after, and the length in bytes, of all 164 instructions, grouped by shape: a second account of the table,
+-- The operand stack before and after, and the length in bytes, of all 164 instructions, grouped by shape: a second account of the table and of the page of opcodes,
 -- which the Java virtual machine's verifier has judged (tools/jvm). Assumes nothing.
 use Prim.Native.Nat.{ℕ}
 use mathlib.Core.Path.{_≡_, refl}
@@ -7,7 +7,7 @@ use mathlib.Core.List.{List, [], _∷_, map}
 use mathlib.Core.Option.{Option, none, some}
 use lib.Dec.{leb, eqb}
 use lib.ListN.{replicate}
-use Rattle.values.specs.Kinds.{Kind, int, long, float, double, reference, any}
+use Rattle.values.specs.Kinds.{Kind, int, long, float, double, reference, any, placesOf}
 use Rattle.rules.specs.Check.{Check, passed, refused, _else_, _>>_, _>>=_}
 use Rattle.rules.specs.Forms.{Row}
 use Rattle.rules.specs.Instructions.{rowOf}
@@ -101,6 +101,15 @@ shapeOfRow (some r) = some (r .rule .takes, r .rule .gives)
 shapes-all : map (shapeIn shapes) (upTo 256) ≡ map (λ n. shapeOfRow (rowOf n)) (upTo 256)
 unfolding rowOf
 shapes-all = refl
+
+-- the page's places are those of these kinds
+abbrev placesIn : Option (List Kind × List Kind) → (ℕ × ℕ)
+placesIn none = (0, 0)
+placesIn (some p) = (placesOf (p .0), placesOf (p .1))
+
+places-all : map (λ n. placesIn (shapeIn shapes n)) (upTo 256) ≡ map (λ n. (lineOf n .popped, lineOf n .pushed)) (upTo 256)
+unfolding lineOf rowOf
+places-all = refl
 
 -- ---- the local that an instruction names, and the kinds that its constant may have
 
