@@ -120,7 +120,8 @@ enum workbook_number {
  * The number of the last request that has landed (docs/changes), 0 before the
  * first. A host compares it with WORKBOOK_VERSION before its first call: parts,
  * words and numbers are those of one version. Version 1 brought the return type:
- * the record DS, the seventh state word, and the numbers 31 and 32.
+ * the record DS, the seventh state word, and the numbers 31 and 32. Version 2, the
+ * page of opcodes, changed no function.
  */
 uint32_t workbook_version(void);
 

@@ -194,32 +194,32 @@ unfolding entryOf rowOf
 wide-all = refl
 
 module _ (code : List ℕ) (pc : ℕ) (there : pc + 1 < length code) (allowed : widens (wideOpcode code pc) ≡ true) (B : wideOpcode code pc < 256) where
-  abbrev row-there : ℕ
-  row-there = entryOf (rowOf (wideOpcode code pc))
+  abbrev widened-entry : ℕ
+  widened-entry = entryOf (rowOf (wideOpcode code pc))
 
-  both : _≡_ {A = Bool × ℕ} (isSome (rowOf (wideOpcode code pc)), 2 * lengthIn row-there) (true, wideLength (wideOpcode code pc))
-  both = rw allowed at (agree foundWide expectedWide 256 wide-all (wideOpcode code pc) B)
+  core-and-doubled : _≡_ {A = Bool × ℕ} (isSome (rowOf (wideOpcode code pc)), 2 * lengthIn widened-entry) (true, wideLength (wideOpcode code pc))
+  core-and-doubled = rw allowed at (agree foundWide expectedWide 256 wide-all (wideOpcode code pc) B)
 
   wide-row : (P : Type 0) → ((r : Row) → rowOf (wideOpcode code pc) ≡ some r → P) → P
   wide-row P k = go (rowOf (wideOpcode code pc)) refl
     where
       go : (o : Option Row) → rowOf (wideOpcode code pc) ≡ o → P
-      go none e = let z : false ≡ true = ap isSome (sym e) ∙ ap (λ (p : Bool × ℕ). p .0) both in let y : _≡_ {A = ℕ} 0 1 = cc in absurd (omega arith)
+      go none e = let z : false ≡ true = ap isSome (sym e) ∙ ap (λ (p : Bool × ℕ). p .0) core-and-doubled in let y : _≡_ {A = ℕ} 0 1 = cc in absurd (omega arith)
       go (some r) e = k r e
 
   -- an instruction of n bytes is of twice the entry's length
   doubled : (n : ℕ) (o : Operand) → wideLength (wideOpcode code pc) ≡ n → ((r : Row) → rowOf (wideOpcode code pc) ≡ some r → wideCheck code pc ≡ sized code pc r n o)
-      → sizedOf code pc row-there (2 * lengthIn row-there) (fields (o .index) (low 32 (o .constant))) ≡ decoded (wideCheck code pc)
+      → sizedOf code pc widened-entry (2 * lengthIn widened-entry) (fields (o .index) (low 32 (o .constant))) ≡ decoded (wideCheck code pc)
   doubled n o l k = wide-row _ (λ r e.
-      ap (λ (m : ℕ). sizedOf code pc row-there m (fields (o .index) (low 32 (o .constant)))) (ap (λ (p : Bool × ℕ). p .1) both ∙ l)
-      ∙ sized-is code pc row-there r (ap (λ (m : ℕ). entryOf (rowOf m)) (own-opcode (wideOpcode code pc) r e)) n o
+      ap (λ (m : ℕ). sizedOf code pc widened-entry m (fields (o .index) (low 32 (o .constant)))) (ap (λ (p : Bool × ℕ). p .1) core-and-doubled ∙ l)
+      ∙ sized-is code pc widened-entry r (ap (λ (m : ℕ). entryOf (rowOf m)) (own-opcode (wideOpcode code pc) r e)) n o
       ∙ ap decoded (sym (k r e)))
 
   pub wide-increment : wideOpcode code pc ≡ 132
-      → sizedOf code pc row-there (2 * lengthIn row-there) (fields (u16 code (pc + 2)) (low 32 (s16 code (pc + 4)))) ≡ decoded (wideCheck code pc)
+      → sizedOf code pc widened-entry (2 * lengthIn widened-entry) (fields (u16 code (pc + 2)) (low 32 (s16 code (pc + 4)))) ≡ decoded (wideCheck code pc)
   wide-increment h = doubled 6 (operands (u16 code (pc + 2)) (s16 code (pc + 4)) []) (rw (eq-eqb _ 132 h)) (λ r e. wide-iinc code pc there allowed r e h)
 
   pub wide-other : (wideOpcode code pc ≡ 132 → ⊥)
-      → sizedOf code pc row-there (2 * lengthIn row-there) (fields (u16 code (pc + 2)) 0) ≡ decoded (wideCheck code pc)
+      → sizedOf code pc widened-entry (2 * lengthIn widened-entry) (fields (u16 code (pc + 2)) 0) ≡ decoded (wideCheck code pc)
   unfolding low
   wide-other h = doubled 4 (operands (u16 code (pc + 2)) (pos 0) []) (rw (ne-eqb _ 132 h)) (λ r e. wide-local code pc there allowed r e h)

@@ -1,5 +1,4 @@
 -- `opcode_line` meets its contract. Assumes nothing.
-use mathlib.Core.Path.{_∙_}
 use borrow.Author.Needs.{needs}
 use Rattle.instructions.proofs.Entries.{line-in}
 use Rattle.instructions.proofs.page.opcode_line.Statement.{statement}
