@@ -73,7 +73,7 @@ module _ (sheet slots kinds words : List ℕ) (bytes : (i : ℕ) → u8 sheet i 
   last = sheet-within sheet p read .1
 
   code-there : p .code + p .«code_length» ≤ length sheet
-  code-there = let e = last in omega (arith, within .code-first (omega arith), within .handlers-there (omega arith))
+  code-there = let e = last in omega (arith, within .code-first, within .handlers-first (omega arith), within .arguments-there (omega arith))
 
   pub code-is : code ≡ take (p .«code_length») (drop (p .code) sheet)
   code-is = rw (le-leb (p .code + p .«code_length») (length sheet) code-there)

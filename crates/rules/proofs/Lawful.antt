@@ -39,7 +39,7 @@ ordinary-by x law n s words u e = subst (IfOrdinary (Legal (x .runs) s n)) e (la
 -- ---- the rules of the 164 instructions
 
 module _ (l : Method) (n : ℕ) (s : State) (words : List ℕ) where
-  thrown-same : (x : Option ℕ) → thrownTo l (uncounted s) x ≡ thrownTo l s x
+  thrown-same : (x : Option ℕ) → thrownTo (l .code) (uncounted s) x ≡ thrownTo (l .code) s x
   thrown-same none = refl
   thrown-same (some h) = refl
 
@@ -47,7 +47,7 @@ module _ (l : Method) (n : ℕ) (s : State) (words : List ℕ) where
   unfolding thrownAt
   outcome-same i (pushes ws) = refl
   outcome-same i (stores ws) = refl
-  outcome-same i (divides by ws) = ap (λ (x : Check Decision). cond (eqb by 0) x (ordinary l s i (following s i) (base s i) (pushed i) ws)) (thrown-same (handlerAt l (s .pc)))
+  outcome-same i (divides by ws) = ap (λ (x : Check Decision). cond (eqb by 0) x (ordinary l s i (following s i) (base s i) (pushed i) ws)) (thrown-same (handlerAt (l .kinds) (l .words) (l .handlers) (s .pc)))
   outcome-same i (branches t z) = refl
   outcome-same i (returns v) = refl
 

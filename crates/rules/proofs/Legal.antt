@@ -103,7 +103,7 @@ module _ (l : Method) (n : ℕ) (s : State) where
         ordinary-fine (following s i) (i .operand .index) (placesOf (i .rule .locals)) ws (few-named one) (placed _ _ _ (λ h.
         let c = local-within (s .«max_locals») (i .operand .index) one (needs .local-there) h in omega arith))
 
-    thrown-fine : (x : Option ℕ) → Holds Fine (thrownTo l s x)
+    thrown-fine : (x : Option ℕ) → Holds Fine (thrownTo (l .code) s x)
     unfolding Holds Fine InCode
     thrown-fine none = tt
     thrown-fine (some h) = asked Fine _ 8 _ (λ t.
@@ -120,7 +120,7 @@ module _ (l : Method) (n : ℕ) (s : State) where
     unfolding Holds Fine Small thrownAt
     outcome-fine (pushes ws) = pushed-fine ws
     outcome-fine (stores ws) = stored-fine ws
-    outcome-fine (divides by ws) = either Fine (eqb by 0) _ _ (thrown-fine (handlerAt l (s .pc))) (pushed-fine ws)
+    outcome-fine (divides by ws) = either Fine (eqb by 0) _ _ (thrown-fine (handlerAt (l .kinds) (l .words) (l .handlers) (s .pc))) (pushed-fine ws)
     outcome-fine (branches t z) = ordinary-fine (cond t (target s z) (following s i)) 0 0 [] (omega arith) (omega arith)
     outcome-fine (returns v) = bound Fine (returned (s .«return_type») v) _ (λ r e. tt)
 

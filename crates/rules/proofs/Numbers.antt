@@ -105,7 +105,7 @@ module _ (l : Method) (s : State) where
   unfolding Numbered
   ordinary-numbered i to at n ws = bound-numbered OfStep Fine (inside (l .code) to) _ (inside-numbered to) (λ pc. tt)
 
-  thrown-numbered : (x : Option ℕ) → Numbered OfStep Fine (thrownTo l s x)
+  thrown-numbered : (x : Option ℕ) → Numbered OfStep Fine (thrownTo (l .code) s x)
   unfolding Numbered
   thrown-numbered none = tt
   thrown-numbered (some h) = asked-numbered OfStep Fine _ 8 _ refl (bound-numbered OfStep Fine (inside (l .code) (pos h)) _ (inside-numbered (pos h)) (λ pc. tt))
@@ -114,7 +114,7 @@ module _ (l : Method) (s : State) where
   unfolding Numbered thrownAt
   outcome-numbered i (pushes ws) = ordinary-numbered i (following s i) (base s i) (pushed i) ws
   outcome-numbered i (stores ws) = ordinary-numbered i (following s i) (i .operand .index) (placesOf (i .rule .locals)) ws
-  outcome-numbered i (divides by ws) = either-numbered OfStep Fine (by =ⁿ 0) _ _ (thrown-numbered (handlerAt l (s .pc))) (ordinary-numbered i (following s i) (base s i) (pushed i) ws)
+  outcome-numbered i (divides by ws) = either-numbered OfStep Fine (by =ⁿ 0) _ _ (thrown-numbered (handlerAt (l .kinds) (l .words) (l .handlers) (s .pc))) (ordinary-numbered i (following s i) (base s i) (pushed i) ws)
   outcome-numbered i (branches t z) = ordinary-numbered i (cond t (target s z) (following s i)) 0 0 []
   outcome-numbered i (returns v) = bound-numbered OfStep Fine (returned (s .«return_type») v) _ (returned-numbered (s .«return_type») v) (λ r. tt)
 

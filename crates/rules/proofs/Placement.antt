@@ -19,16 +19,15 @@ use Rattle.rules.proofs.Check.{first-passed, last-passed, or-true, case
 abbrev pub Bytes : List ℕ → Type 0
 Bytes sheet = (i : ℕ) → u8 sheet i < 256
 
--- of the code and the handlers once the code is read, and of the arguments once they are. Before the code stand LM, which has four bytes, and at most one DS; between the
+-- of the code once it is read, and of the arguments once they are. Before the code stand LM, which has four bytes, and at most one DS; between the
 -- code and the handlers stand KI records of at most fifteen bytes, each with an index of its own
 pub record Within (sheet : List ℕ) (p : Reading) : Type 0 where
   pub code-near : Bytes sheet → 3 ≤ p .last → p .code ≤ 65551
   pub some-code : 3 ≤ p .last → 1 ≤ p .«code_length»
   pub short-code : Bytes sheet → p .«code_length» ≤ 65535
-  pub code-first : 3 ≤ p .last → p .code + p .«code_length» ≤ p .handlers
+  pub code-first : p .code + p .«code_length» ≤ p .handlers
   pub pool-short : 3 ≤ p .last → p .handlers ≤ p .code + p .«code_length» + 15 * p .used
   pub indices-short : p .used ≤ 65535
-  pub handlers-there : 3 ≤ p .last → p .handlers ≤ length sheet
   pub handlers-first : 6 ≤ p .last → p .handlers + 4 ≤ p .arguments
   pub arguments-there : 6 ≤ p .last → p .arguments + 4 * p .«argument_count» ≤ length sheet
   pub few-arguments : 6 ≤ p .last → p .«argument_count» ≤ p .«max_locals»
@@ -36,13 +35,13 @@ pub record Within (sheet : List ℕ) (p : Reading) : Type 0 where
   pub small-locals : Bytes sheet → p .«max_locals» ≤ 65535
 
 -- and where the next record begins
-record Placed (sheet : List ℕ) (at : ℕ) (p : Reading) : Type 0 where
-  within : Within sheet p
-  first : p .last ≡ 0 → at ≡ 0
-  second : p .last ≡ 1 → at ≡ 8
-  third : Bytes sheet → p .last ≡ 2 → at ≤ 65547
-  handlers-here : 3 ≤ p .last → p .last ≤ 4 → at ≡ p .handlers
-  handlers-before : 3 ≤ p .last → p .last ≤ 5 → p .handlers ≤ at
+pub record Placed (sheet : List ℕ) (at : ℕ) (p : Reading) : Type 0 where
+  pub within : Within sheet p
+  pub first : p .last ≡ 0 → at ≡ 0
+  pub second : p .last ≡ 1 → at ≡ 8
+  pub third : Bytes sheet → p .last ≡ 2 → at ≤ 65547
+  pub handlers-here : 3 ≤ p .last → p .last ≤ 4 → at ≡ p .handlers
+  pub handlers-before : p .handlers ≤ at
 
 -- ---- what a record may come after
 
@@ -79,10 +78,9 @@ module _ (sheet : List ℕ) where
         code-near = λ b k. absurd (omega arith);
         some-code = λ k. absurd (omega arith);
         short-code = h .within .short-code;
-        code-first = λ k. absurd (omega arith);
+        code-first = h .within .code-first;
         pool-short = λ k. absurd (omega arith);
         indices-short = h .within .indices-short;
-        handlers-there = λ k. absurd (omega arith);
         handlers-first = λ k. absurd (omega arith);
         arguments-there = λ k. absurd (omega arith);
         few-arguments = λ k. absurd (omega arith);
@@ -93,17 +91,16 @@ module _ (sheet : List ℕ) where
       second = λ e. omega (arith, h .first (eqb-true (p .last) 0 f), eqb-true (bodyLength sheet at) 4 r);
       third = λ b e. absurd (omega arith);
       handlers-here = λ k j. absurd (omega arith);
-      handlers-before = λ k j. absurd (omega arith);
+      handlers-before = omega (arith, h .handlers-before);
     }
     with-placed DS f r c = record {
       within = record {
         code-near = λ b k. absurd (omega arith);
         some-code = λ k. absurd (omega arith);
         short-code = h .within .short-code;
-        code-first = λ k. absurd (omega arith);
+        code-first = h .within .code-first;
         pool-short = λ k. absurd (omega arith);
         indices-short = h .within .indices-short;
-        handlers-there = λ k. absurd (omega arith);
         handlers-first = λ k. absurd (omega arith);
         arguments-there = λ k. absurd (omega arith);
         few-arguments = λ k. absurd (omega arith);
@@ -114,17 +111,16 @@ module _ (sheet : List ℕ) where
       second = λ e. absurd (omega arith);
       third = λ b e. omega (arith, h .second (eqb-true (p .last) 1 f), body-short at b);
       handlers-here = λ k j. absurd (omega arith);
-      handlers-before = λ k j. absurd (omega arith);
+      handlers-before = omega (arith, h .handlers-before);
     }
     with-placed CD f r c = record {
       within = record {
         code-near = λ b k. ⊎-elim (λ e. omega (arith, h .second (eqb-true (p .last) 1 e))) (λ e. omega (arith, h .third b (eqb-true (p .last) 2 e))) (or-true _ _ f);
         some-code = λ k. leb-true _ _ r;
         short-code = body-short at;
-        code-first = λ k. omega arith;
+        code-first = omega arith;
         pool-short = λ k. omega arith;
         indices-short = h .within .indices-short;
-        handlers-there = λ k. there;
         handlers-first = λ k. absurd (omega arith);
         arguments-there = λ k. absurd (omega arith);
         few-arguments = λ k. absurd (omega arith);
@@ -135,7 +131,7 @@ module _ (sheet : List ℕ) where
       second = λ e. absurd (omega arith);
       third = λ b e. absurd (omega arith);
       handlers-here = λ k j. refl;
-      handlers-before = λ k j. omega arith;
+      handlers-before = omega arith;
     }
     with-placed KI f r c =
         let (since, until) = after-code (p .last) f in
@@ -148,10 +144,9 @@ module _ (sheet : List ℕ) where
             code-near = λ b k. w .code-near b since;
             some-code = λ k. w .some-code since;
             short-code = w .short-code;
-            code-first = λ k. omega (arith, w .code-first since);
+            code-first = omega (arith, w .code-first);
             pool-short = λ k. omega (arith, w .pool-short since, constant-short (bodyLength sheet at) r, index-last at);
             indices-short = leb-true (lastIndex sheet at) 65535 (last-passed _ 25 (indexed .1));
-            handlers-there = λ k. there;
             handlers-first = λ k. absurd (omega arith);
             arguments-there = λ k. absurd (omega arith);
             few-arguments = λ k. absurd (omega arith);
@@ -162,7 +157,7 @@ module _ (sheet : List ℕ) where
           second = λ e. absurd (omega arith);
           third = λ b e. absurd (omega arith);
           handlers-here = λ k j. refl;
-          handlers-before = λ k j. omega arith;
+          handlers-before = omega arith;
         }
     with-placed EX f r c =
         let (since, until) = after-pool (p .last) f in
@@ -172,10 +167,9 @@ module _ (sheet : List ℕ) where
             code-near = λ b k. w .code-near b since;
             some-code = λ k. w .some-code since;
             short-code = w .short-code;
-            code-first = λ k. w .code-first since;
+            code-first = w .code-first;
             pool-short = λ k. w .pool-short since;
             indices-short = w .indices-short;
-            handlers-there = λ k. w .handlers-there since;
             handlers-first = λ k. absurd (omega arith);
             arguments-there = λ k. absurd (omega arith);
             few-arguments = λ k. absurd (omega arith);
@@ -186,7 +180,7 @@ module _ (sheet : List ℕ) where
           second = λ e. absurd (omega arith);
           third = λ b e. absurd (omega arith);
           handlers-here = λ k j. absurd (omega arith);
-          handlers-before = λ k j. omega (arith, h .handlers-before since until);
+          handlers-before = omega (arith, h .handlers-before);
         }
     with-placed AR f r c =
         let (since, until) = after-pool (p .last) f in
@@ -196,11 +190,10 @@ module _ (sheet : List ℕ) where
             code-near = λ b k. w .code-near b since;
             some-code = λ k. w .some-code since;
             short-code = w .short-code;
-            code-first = λ k. w .code-first since;
+            code-first = w .code-first;
             pool-short = λ k. w .pool-short since;
             indices-short = w .indices-short;
-            handlers-there = λ k. w .handlers-there since;
-            handlers-first = λ k. omega (arith, h .handlers-before since until);
+            handlers-first = λ k. omega (arith, h .handlers-before);
             arguments-there = λ k. let e = eqb-true (bodyLength sheet at % 4) 0 r in omega arith;
             few-arguments = λ k. leb-true _ _ (first-passed _ 27 _ c .0);
             small-stack = w .small-stack;
@@ -210,13 +203,17 @@ module _ (sheet : List ℕ) where
           second = λ e. absurd (omega arith);
           third = λ b e. absurd (omega arith);
           handlers-here = λ k j. absurd (omega arith);
-          handlers-before = λ k j. absurd (omega arith);
+          handlers-before = omega (arith, h .handlers-before);
         }
 
   record-placed : (at : ℕ) (p : Reading) → Placed sheet at p → Holds (After at) (recordCheck sheet at p)
   unfolding recordCheck markedCheck Holds
   record-placed at p h = asked (After at) _ 21 _ (λ _. asked (After at) _ 21 _ (λ there. bound (After at) (knownMark (u16 sheet at)) _ (λ m e.
       asked (After at) _ 23 _ (λ f. asked (After at) _ 24 _ (λ r. after (After at) (contentsCheck sheet at p m) _ (λ c. with-placed at p h (leb-true (recordEnd sheet at) (length sheet) there) m f r c))))))
+
+  pub next-placed : (at : ℕ) (p q : Reading) → Placed sheet at p → recordCheck sheet at p ≡ passed q → Placed sheet (recordEnd sheet at) q
+  unfolding After
+  next-placed at p q h e = held (After at) (recordCheck sheet at p) q (record-placed at p h) e
 
   -- ---- the whole sheet
 
@@ -228,21 +225,20 @@ module _ (sheet : List ℕ) where
   end-placed at p h = asked Complete _ 23 _ (λ e. (h .within, eqb-true _ _ e))
 
   read-placed : (n at : ℕ) (p : Reading) → Placed sheet at p → Holds Complete (readFrom n sheet at p)
-  unfolding readFrom After
+  unfolding readFrom
   read-placed zero at p h = end-placed at p h
   read-placed (suc n) at p h =
-      either Complete (leb (length sheet) at) _ _ (end-placed at p h) (bound Complete (recordCheck sheet at p) _ (λ q e. read-placed n (recordEnd sheet at) q (held (After at) (recordCheck sheet at p) q (record-placed at p h) e)))
+      either Complete (leb (length sheet) at) _ _ (end-placed at p h) (bound Complete (recordCheck sheet at p) _ (λ q e. read-placed n (recordEnd sheet at) q (next-placed at p q h e)))
 
-  nothing-read : Placed sheet 0 unread
+  pub nothing-read : Placed sheet 0 unread
   nothing-read = record {
     within = record {
       code-near = λ b k. absurd (omega arith);
       some-code = λ k. absurd (omega arith);
       short-code = λ b. omega arith;
-      code-first = λ k. absurd (omega arith);
+      code-first = omega arith;
       pool-short = λ k. absurd (omega arith);
       indices-short = omega arith;
-      handlers-there = λ k. absurd (omega arith);
       handlers-first = λ k. absurd (omega arith);
       arguments-there = λ k. absurd (omega arith);
       few-arguments = λ k. absurd (omega arith);
@@ -253,7 +249,7 @@ module _ (sheet : List ℕ) where
     second = λ e. absurd (omega arith);
     third = λ b e. absurd (omega arith);
     handlers-here = λ k j. absurd (omega arith);
-    handlers-before = λ k j. absurd (omega arith);
+    handlers-before = omega arith;
   }
 
   pub sheet-within : (p : Reading) → sheetCheck sheet ≡ passed p → (Within sheet p) × (p .last ≡ 6)

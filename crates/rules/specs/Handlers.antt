@@ -6,7 +6,6 @@ use mathlib.Core.Option.{Option, none, some}
 use lib.ListN.{length, getD}
 use Rattle.rules.specs.Check.{_≤ⁿ_, _<ⁿ_, _=ⁿ_}
 use Rattle.rules.specs.Fetch.{u16}
-use Rattle.rules.specs.Questions.{Method}
 
 -- ---- an entry at an offset of the part: an EX record of the sheet, whose mark and length are not looked at
 
@@ -29,7 +28,7 @@ catchType part at = u16 part (at + 10)
 -- ---- the entry that catches
 
 -- the end is excluded
-abbrev pub covers : List ℕ → ℕ → ℕ → Bool
+unfoldable pub covers : List ℕ → ℕ → ℕ → Bool
 covers part at pc = (startPc part at ≤ⁿ pc) && (pc <ⁿ endPc part at)
 
 -- the tag of a class (JVMS 4.4)
@@ -37,21 +36,21 @@ abbrev pub classTag : ℕ
 classTag = 7
 
 -- a class in the pool to which ArithmeticException can be assigned: its word is 1. Past the pool there is none
-abbrev pub isCaughtAs : Method → ℕ → Bool
-isCaughtAs l type = (getD (l .kinds) type 0 =ⁿ classTag) && (getD (l .words) type 0 =ⁿ 1)
+abbrev pub isCaughtAs : List ℕ → List ℕ → ℕ → Bool
+isCaughtAs kinds words type = (getD kinds type 0 =ⁿ classTag) && (getD words type 0 =ⁿ 1)
 
 -- catch type 0 takes everything
-abbrev pub takes : Method → ℕ → Bool
-takes l type = (type =ⁿ 0) || isCaughtAs l type
+unfoldable pub takes : List ℕ → List ℕ → ℕ → Bool
+takes kinds words type = (type =ⁿ 0) || isCaughtAs kinds words type
 
-unfoldable pub catches : Method → ℕ → ℕ → Bool
-catches l at pc = covers (l .handlers) at pc && takes l (catchType (l .handlers) at)
+unfoldable pub catches : List ℕ → List ℕ → List ℕ → ℕ → ℕ → Bool
+catches kinds words part at pc = covers part at pc && takes kinds words (catchType part at)
 
 -- the handler of the first of n entries from an offset on that catches what is thrown at pc
-unfoldable pub handlerFrom : ℕ → Method → ℕ → ℕ → Option ℕ
-handlerFrom zero l at pc = none
-handlerFrom (suc n) l at pc = cond (catches l at pc) (some (handlerPc (l .handlers) at)) (handlerFrom n l (at + entrySize) pc)
+unfoldable pub handlerFrom : ℕ → List ℕ → List ℕ → List ℕ → ℕ → ℕ → Option ℕ
+handlerFrom zero kinds words part at pc = none
+handlerFrom (suc n) kinds words part at pc = cond (catches kinds words part at pc) (some (handlerPc part at)) (handlerFrom n kinds words part (at + entrySize) pc)
 
--- of all whole entries
-abbrev pub handlerAt : Method → ℕ → Option ℕ
-handlerAt l pc = handlerFrom (length (l .handlers) / entrySize) l 0 pc
+-- of all whole entries; a rest that is shorter counts for nothing
+abbrev pub handlerAt : List ℕ → List ℕ → List ℕ → ℕ → Option ℕ
+handlerAt kinds words part pc = handlerFrom (length part / entrySize) kinds words part 0 pc

@@ -89,19 +89,19 @@ returnOf t v = do
 
 -- an exception that is caught (JVMS 2.10, and 6.5 of athrow): the stack is emptied and the exception pushed, a reference with the word 1, with question 7; then
 -- question 10 of the handler
-abbrev pub caughtAt : Method → State → ℕ → Check Decision
-caughtAt l s handler = do
+abbrev pub caughtAt : List ℕ → State → ℕ → Check Decision
+caughtAt code s handler = do
   1 ≤ⁿ s .«max_stack» else 8
-  pc ← inside (l .code) (pos handler)
+  pc ← inside code (pos handler)
   passed (Ordinary (update pc 1 (s .«max_locals») 1 (1 ∷ [])))
 
 -- an ArithmeticException that is thrown at an offset: caught by the method's handlers, or the outcome
-abbrev pub thrownTo : Method → State → Option ℕ → Check Decision
-thrownTo l s none = passed Throw
-thrownTo l s (some handler) = caughtAt l s handler
+abbrev pub thrownTo : List ℕ → State → Option ℕ → Check Decision
+thrownTo code s none = passed Throw
+thrownTo code s (some handler) = caughtAt code s handler
 
 unfoldable pub thrownAt : Method → State → ℕ → Check Decision
-thrownAt l s pc = thrownTo l s (handlerAt l pc)
+thrownAt l s pc = thrownTo (l .code) s (handlerAt (l .kinds) (l .words) (l .handlers) pc)
 
 -- all that it pushes, from its first place on the stack on; or the local stored. A zero divisor throws at the opcode's offset. A return ends before question 10
 abbrev pub outcome : Method → State → Instruction → Result → Check Decision
