@@ -1,4 +1,5 @@
 // The entries of the lent part: which of them catches what is thrown at an offset.
+use operands::read_code_u8;
 use operands::read_code_u16;
 ghost use mathlib.Core.Path.{_≡_};
 ghost use Prim.Native.Nat.{_+_, _≤_};
@@ -33,17 +34,14 @@ fn is_covered(handlers: &[u8], at: usize, pc: u32) -> bool
 fn is_taken(kinds: &[u8], words: &[u32], catch_type: u16) -> bool
     ensures { λ r. ⌜ r ≡ takes (now (kinds .entry)) (now (words .entry)) «catch_type» ⌝ }
 {
-    let index = catch_type as usize;
-    if index == 0 {
+    if catch_type == 0 {
         return true;
     }
-    if kinds.len() <= index {
+    let index = catch_type as usize;
+    if read_code_u8(kinds, index) != CONSTANT_CLASS {
         return false;
     }
     if words.len() <= index {
-        return false;
-    }
-    if kinds[index] != CONSTANT_CLASS {
         return false;
     }
     words[index] == 1
