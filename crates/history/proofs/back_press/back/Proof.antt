@@ -20,7 +20,7 @@ enum-told c = search needs
 restore-requires : tie.Need-restore-requires
 restore-requires c κs =
     let a = c .before .before .before .before .before .before .before .before .before .before .args in
-    let l = method (now (a .code)) (now (a .kinds)) (now (a .words)) in
+    let l = method (now (a .code)) (now (a .kinds)) (now (a .words)) (now (a .handlers)) in
     let passes = row-passed _ (sym (c .before .enum-told .given .1) ∙ c .before .before .before .check-back .ensures) in
     let b = back-passed l (a .s) (now (a .slots)) (now (a .log)) passes in
     ((b .some, b .reached), (b .few, b .within))
@@ -31,7 +31,7 @@ same-length c = search needs
 returns : tie.Need-returns
 returns c =
     let a = c .before .before .before .before .before .before .before .before .before .before .args in
-    let l = method (now (a .code)) (now (a .kinds)) (now (a .words)) in
+    let l = method (now (a .code)) (now (a .kinds)) (now (a .words)) (now (a .handlers)) in
     sym (back-by l (a .s) (now (a .slots)) (now (a .log)) _ (row-refused _ _ (sym (c .before .asked .given .1) ∙ c .before .before .before .check-back .ensures)))
 
 same-length-2 : tie.Need-same-length-2
@@ -40,7 +40,7 @@ same-length-2 c = search needs
 returns-2 : tie.Need-returns-2
 returns-2 c =
     let a = c .before .before .before .before .before .before .before .before .before .before .before .before .before .args in
-    let l = method (now (a .code)) (now (a .kinds)) (now (a .words)) in
+    let l = method (now (a .code)) (now (a .kinds)) (now (a .words)) (now (a .handlers)) in
     let passes = row-passed _ (sym (c .before .before .before .before .enum-told .given .1) ∙ c .before .before .before .before .before .before .check-back .ensures) in
     c .before .before .restore .ensures ∙ sym (back-by l (a .s) (now (a .slots)) (now (a .log)) _ passes)
 

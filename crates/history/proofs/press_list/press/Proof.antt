@@ -30,7 +30,7 @@ same-length-4 c = search needs
 returns-2 : tie.Need-returns-2
 unfolding pressOf
 returns-2 c =
-    let a = c .before .before .before .before .before .before .before .before .before .before .before .before .before .args in
+    let a = c .before .before .before .before .before .before .before .before .before .before .before .before .before .before .args in
     rw (forward-byte (a .byte) (c .before .before .before .before .before .before .before .if1 .left)) (c .before .before .before .before .forward .ensures)
 
 pub press-spec : {M : Type 1} → statement M
