@@ -27,7 +27,7 @@ press-requires : tie.Need-press-requires Inv-loop μ-loop
 press-requires c κs = search needs
 
 mul-write-answer : tie.Need-mul-write-answer Inv-loop μ-loop
-mul-write-answer c = omega (arith, c .before .before .before .before .before .before .before .before .before .loop-test .taken, c .before .before .before .before .before .before .before .before .before .before .before .before .before .before .before .before .before .before .before .pre, c .before .before .before .before .before .before .before .before .before .before .before .before .before .before .before .before .before .before .before .good .1 .1 .1 .1 .1 .1 .1 .0)
+mul-write-answer c = omega (arith, c .before .before .before .before .before .before .before .before .before .loop-test .taken, c .before .before .before .before .before .before .before .before .before .before .before .before .before .before .before .before .before .before .before .pre, c .before .before .before .before .before .before .before .before .before .before .before .before .before .before .before .before .before .before .before .good .1 .1 .1 .1 .1 .1 .1 .1 .0)
 
 write-answer-requires : tie.Need-write-answer-requires Inv-loop μ-loop
 write-answer-requires c κs =
@@ -37,7 +37,7 @@ write-answer-requires c κs =
     room
 
 add-i : tie.Need-add-i Inv-loop μ-loop
-add-i c = omega (arith, c .before .before .before .before .before .before .before .before .before .before .before .before .before .loop-test .taken, c .before .before .before .before .before .before .before .before .before .before .before .before .before .before .before .before .before .before .before .before .before .before .before .good .1 .1 .1 .1 .1 .1 .0)
+add-i c = omega (arith, c .before .before .before .before .before .before .before .before .before .before .before .before .before .loop-test .taken, c .before .before .before .before .before .before .before .before .before .before .before .before .before .before .before .before .before .before .before .before .before .before .before .good .1 .1 .1 .1 .1 .1 .1 .0)
 
 loop-less : tie.Need-loop-less Inv-loop μ-loop
 loop-less c = omega (arith, c .before .before .before .before .before .before .before .before .before .before .before .before .before .loop-test .taken)
@@ -50,7 +50,7 @@ loop-again c =
     let p = c .before .before .before .before .before .before .before .before .before .press in
     let room : 3 * t .i + 3 ≤ length (t .answers) = omega (arith, c .before .before .before .before .before .before .before .before .before .before .before .before .before .loop-test .taken, c .before .before .before .before .before .before .before .before .before .before .before .before .before .before .before .before .before .before .before .before .before .before .before .pre, t .inv .long-answers) in
     rw (c .before .before .before .write-answer .ensures)
-    (one-more l (now (a .bytes)) (a .s) (now (a .slots)) (now (a .log)) (now (a .answers)) (t .i) (t .t) (t .slots) (t .log) (t .answers) (t .inv) (c .before .before .before .before .before .before .before .before .before .before .before .before .before .loop-test .taken) room _ (p .ensures) (p .kept .1 .1 .1 .0) (p .kept .1 .1 .1 .1 .0))
+    (one-more l (now (a .bytes)) (a .s) (now (a .slots)) (now (a .log)) (now (a .answers)) (t .i) (t .t) (t .slots) (t .log) (t .answers) (t .inv) (c .before .before .before .before .before .before .before .before .before .before .before .before .before .loop-test .taken) room _ (p .ensures) (p .kept .1 .1 .1 .1 .0) (p .kept .1 .1 .1 .1 .1 .0))
 
 same-length : tie.Need-same-length Inv-loop μ-loop
 same-length c = c .before .loop .inv .long-slots

@@ -16,7 +16,7 @@ same-length-2 c = search needs
 
 returns : tie.Need-returns
 unfolding pressOf
-returns c = rw (c .before .before .before .before .before .if1 .taken) (c .before .before .back .ensures)
+returns c = rw (c .before .before .before .before .before .if1 .taken) (c .before .before .back .ensures _)
 
 forward-requires : tie.Need-forward-requires
 forward-requires c κs = search needs
