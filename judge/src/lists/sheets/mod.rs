@@ -27,6 +27,7 @@
 //! Each sample says what it gives; a load that gives something else is an error.
 
 pub mod descriptors;
+pub mod handlers;
 pub mod lent_memory;
 pub mod made_descriptors;
 pub mod records;
@@ -178,6 +179,7 @@ pub fn samples() -> Result<Samples, String> {
     two_refusals::all(&mut samples)?;
     descriptors::all(&mut samples)?;
     made_descriptors::all(&mut samples)?;
+    handlers::all(&mut samples);
     let mut names = HashSet::new();
     let fits = |sample: &Sample| {
         sample.name.len() <= 40 && sample.slots <= 300 && sample.sheet.len() <= 66_000
