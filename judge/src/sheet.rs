@@ -272,9 +272,9 @@ mod tests {
         let class = constant(1, 7, &[0, 0, 0, 1]);
         let entries = [[0, 5, 4, 0], [4, 5, 0, 1]].map(handler);
         assert_eq!(part(&[]), Ok(17..17));
-        assert_eq!(part(&[class.clone()]), Ok(28..28));
+        assert_eq!(part(std::slice::from_ref(&class)), Ok(28..28));
         assert_eq!(part(&entries[..1]), Ok(17..29));
-        assert_eq!(part(&[&[class.clone()], &entries[..]].concat()), Ok(28..52));
+        assert_eq!(part(&[std::slice::from_ref(&class), &entries[..]].concat()), Ok(28..52));
         assert_eq!(part(&entries), Err(33));
         assert_eq!(part(&[entries[0].clone(), class]), Err(23));
     }

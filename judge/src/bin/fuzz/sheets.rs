@@ -6,9 +6,10 @@ use super::handlers::{self, Around};
 use super::random::Random;
 use bytecode::records::{arguments, constant, descriptor, record, sizes};
 
-const SAMPLES: [&[u8]; 24] = [
+const SAMPLES: [&[u8]; 29] = [
     include_bytes!("../../../../samples/boolean_return.sheet"),
     include_bytes!("../../../../samples/byte_return.sheet"),
+    include_bytes!("../../../../samples/catch_division.sheet"),
     include_bytes!("../../../../samples/char_return.sheet"),
     include_bytes!("../../../../samples/division_by_zero.sheet"),
     include_bytes!("../../../../samples/endless.sheet"),
@@ -21,13 +22,17 @@ const SAMPLES: [&[u8]; 24] = [
     include_bytes!("../../../../samples/loop.sheet"),
     include_bytes!("../../../../samples/minimum_by_minus_one.sheet"),
     include_bytes!("../../../../samples/nan_comparison.sheet"),
+    include_bytes!("../../../../samples/nested_handlers.sheet"),
+    include_bytes!("../../../../samples/not_covered.sheet"),
     include_bytes!("../../../../samples/printed.sheet"),
+    include_bytes!("../../../../samples/refused_handler.sheet"),
     include_bytes!("../../../../samples/refused_length.sheet"),
     include_bytes!("../../../../samples/refused_return.sheet"),
     include_bytes!("../../../../samples/refused_stack.sheet"),
     include_bytes!("../../../../samples/refused_words.sheet"),
     include_bytes!("../../../../samples/shifts.sheet"),
     include_bytes!("../../../../samples/short_return.sheet"),
+    include_bytes!("../../../../samples/skipped_terms.sheet"),
     include_bytes!("../../../../samples/swap.sheet"),
     include_bytes!("../../../../samples/tableswitch_highest.sheet"),
     include_bytes!("../../../../samples/wide.sheet"),
