@@ -274,7 +274,10 @@ mod tests {
         assert_eq!(part(&[]), Ok(17..17));
         assert_eq!(part(std::slice::from_ref(&class)), Ok(28..28));
         assert_eq!(part(&entries[..1]), Ok(17..29));
-        assert_eq!(part(&[std::slice::from_ref(&class), &entries[..]].concat()), Ok(28..52));
+        assert_eq!(
+            part(&[std::slice::from_ref(&class), &entries[..]].concat()),
+            Ok(28..52)
+        );
         assert_eq!(part(&entries), Err(33));
         assert_eq!(part(&[entries[0].clone(), class]), Err(23));
     }
