@@ -7,13 +7,15 @@ use frame::check_frame;
 use rules::Checked;
 use rules::Pressed;
 use rules::State;
+ghost use Prim.Native.Nat.{ℕ};
 ghost use mathlib.Core.Path.{_≡_};
+ghost use mathlib.Core.List.{List};
 ghost use Rattle.rules.specs.Answers.{checked};
 ghost use Rattle.rules.specs.Questions.{method};
 ghost use Rattle.rules.specs.History.{backCheck, backOf};
 ghost use Rattle.history.specs.Left.{pressed};
 
-// The questions of back: 1 to 3, then whether there is a step to take back, and whether its entry stands in the log and is sound.
+// The questions of back, whatever the handlers are: 1 to 3, then whether there is a step to take back, and whether its entry stands in the log and is sound.
 fn check_back(
     code: &[u8],
     kinds: &[u8],
@@ -22,7 +24,7 @@ fn check_back(
     log: &[u32],
     s: State,
 ) -> Checked
-    ensures { λ r. ⌜ r ≡ checked (backCheck (method (now (code .entry)) (now (kinds .entry)) (now (words .entry))) s (now (slots .entry)) (now (log .entry))) ⌝ }
+    ensures { λ r. ⌜ ((handlers : List ℕ) → r ≡ checked (backCheck (method (now (code .entry)) (now (kinds .entry)) (now (words .entry)) handlers) s (now (slots .entry)) (now (log .entry)))) ⌝ }
 {
     let asked = check_frame(code, kinds, words, slots, s);
     let Checked::Passed = asked else {
@@ -40,7 +42,7 @@ fn check_back(
     Checked::Passed
 }
 
-// A press of back on any code, pool, slots, log and state. It changes no log word; one that is not granted writes nothing.
+// A press of back on any code, pool, slots, log and state, whatever the handlers are. It changes no log word; one that is not granted writes nothing.
 pub fn back(
     code: &[u8],
     kinds: &[u8],
@@ -49,7 +51,7 @@ pub fn back(
     log: &[u32],
     s: State,
 ) -> PressResult
-    ensures { λ r. ⌜ pressed r (now (slots .exit)) (now (log .entry)) ≡ backOf (method (now (code .entry)) (now (kinds .entry)) (now (words .entry))) s (now (slots .entry)) (now (log .entry)) ⌝ }
+    ensures { λ r. ⌜ ((handlers : List ℕ) → pressed r (now (slots .exit)) (now (log .entry)) ≡ backOf (method (now (code .entry)) (now (kinds .entry)) (now (words .entry)) handlers) s (now (slots .entry)) (now (log .entry))) ⌝ }
 {
     let asked = check_back(code, kinds, words, slots, log, s);
     match asked {

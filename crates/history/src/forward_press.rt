@@ -60,13 +60,14 @@ pub fn forward(
     code: &[u8],
     kinds: &[u8],
     words: &[u32],
+    handlers: &[u8],
     slots: &mut [u32],
     log: &mut [u32],
     s: State,
 ) -> PressResult
-    ensures { λ r. ⌜ pressed r (now (slots .exit)) (now (log .exit)) ≡ forwardOf (machine (now (code .entry)) (now (kinds .entry)) (now (words .entry))) s (now (slots .entry)) (now (log .entry)) ⌝ }
+    ensures { λ r. ⌜ pressed r (now (slots .exit)) (now (log .exit)) ≡ forwardOf (machine (now (code .entry)) (now (kinds .entry)) (now (words .entry)) (now (handlers .entry))) s (now (slots .entry)) (now (log .entry)) ⌝ }
 {
-    let reached = advance(code, kinds, words, slots, s, 0);
+    let reached = advance(code, kinds, words, handlers, slots, s, 0);
     let decision = reached.decision;
     let Decision::Ordinary(u) = decision else {
         return PressResult {

@@ -27,17 +27,18 @@ fn press(
     code: &[u8],
     kinds: &[u8],
     words: &[u32],
+    handlers: &[u8],
     slots: &mut [u32],
     log: &mut [u32],
     s: State,
     byte: u8,
 ) -> PressResult
-    ensures { λ r. ⌜ pressed r (now (slots .exit)) (now (log .exit)) ≡ pressOf (machine (now (code .entry)) (now (kinds .entry)) (now (words .entry))) (pressOfByte byte) s (now (slots .entry)) (now (log .entry)) ⌝ }
+    ensures { λ r. ⌜ pressed r (now (slots .exit)) (now (log .exit)) ≡ pressOf (machine (now (code .entry)) (now (kinds .entry)) (now (words .entry)) (now (handlers .entry))) (pressOfByte byte) s (now (slots .entry)) (now (log .entry)) ⌝ }
 {
     if byte == 0 {
         return back(code, kinds, words, slots, log, s);
     }
-    forward(code, kinds, words, slots, log, s)
+    forward(code, kinds, words, handlers, slots, log, s)
 }
 
 // Writes the three words of an answer.
@@ -55,6 +56,7 @@ fn make_presses(
     code: &[u8],
     kinds: &[u8],
     words: &[u32],
+    handlers: &[u8],
     slots: &mut [u32],
     log: &mut [u32],
     s: State,
@@ -62,12 +64,12 @@ fn make_presses(
     answers: &mut [u32],
 ) -> Replay
     requires { ⌜ 3 * length (now bytes) ≤ length (now answers) ⌝ }
-    ensures { λ r. ⌜ left r (now (slots .exit)) (now (log .exit)) (now (answers .exit)) ≡ replayed (now (answers .entry)) (length (now (bytes .entry))) (walkOf (machine (now (code .entry)) (now (kinds .entry)) (now (words .entry))) (pressesOfBytes (now (bytes .entry))) s (now (slots .entry)) (now (log .entry))) ⌝ }
+    ensures { λ r. ⌜ left r (now (slots .exit)) (now (log .exit)) (now (answers .exit)) ≡ replayed (now (answers .entry)) (length (now (bytes .entry))) (walkOf (machine (now (code .entry)) (now (kinds .entry)) (now (words .entry)) (now (handlers .entry))) (pressesOfBytes (now (bytes .entry))) s (now (slots .entry)) (now (log .entry))) ⌝ }
 {
     let mut t = s;
     let mut i = 0;
     while i < bytes.len() {
-        let p = press(code, kinds, words, slots, log, t, bytes[i]);
+        let p = press(code, kinds, words, handlers, slots, log, t, bytes[i]);
         let answer = p.answer;
         write_answer(answers, 3 * i, answer);
         t = p.state;
@@ -84,14 +86,15 @@ pub fn presses(
     code: &[u8],
     kinds: &[u8],
     words: &[u32],
+    handlers: &[u8],
     slots: &mut [u32],
     log: &mut [u32],
     s: State,
     bytes: &[u8],
     answers: &mut [u32],
 ) -> Replay
-    ensures { λ r. ⌜ left r (now (slots .exit)) (now (log .exit)) (now (answers .exit)) ≡ replayOf (machine (now (code .entry)) (now (kinds .entry)) (now (words .entry))) (now (bytes .entry)) s (now (slots .entry)) (now (log .entry)) (now (answers .entry)) ⌝ }
-    ensures { λ r. ⌜ FromAnyLoad coreRules (method (now (code .entry)) (now (kinds .entry)) (now (words .entry))) s (now (slots .entry)) (now (log .entry)) (now (answers .entry)) (now (bytes .entry)) (left r (now (slots .exit)) (now (log .exit)) (now (answers .exit))) ⌝ }
+    ensures { λ r. ⌜ left r (now (slots .exit)) (now (log .exit)) (now (answers .exit)) ≡ replayOf (machine (now (code .entry)) (now (kinds .entry)) (now (words .entry)) (now (handlers .entry))) (now (bytes .entry)) s (now (slots .entry)) (now (log .entry)) (now (answers .entry)) ⌝ }
+    ensures { λ r. ⌜ FromAnyLoad coreRules (method (now (code .entry)) (now (kinds .entry)) (now (words .entry)) (now (handlers .entry))) s (now (slots .entry)) (now (log .entry)) (now (answers .entry)) (now (bytes .entry)) (left r (now (slots .exit)) (now (log .exit)) (now (answers .exit))) ⌝ }
 {
     if answers.len() / 3 < bytes.len() {
         return Replay {
@@ -99,5 +102,5 @@ pub fn presses(
             number: 1,
         };
     }
-    make_presses(code, kinds, words, slots, log, s, bytes, answers)
+    make_presses(code, kinds, words, handlers, slots, log, s, bytes, answers)
 }

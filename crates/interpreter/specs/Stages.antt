@@ -8,10 +8,11 @@ use lib.IntN.{ℤ, pos, _+ℤ_}
 use lib.ListN.{getD}
 use Rattle.values.specs.Kinds.{int, long, float, double}
 use Rattle.values.specs.Words.{meaning}
+use Rattle.rules.specs.declared.State.{State}
 use Rattle.rules.specs.declared.Decision.{Decision}
 use Rattle.rules.specs.declared.Decision.the-variants as Decision
 use Rattle.rules.specs.Questions.{Method}
-use Rattle.rules.specs.Step.{firstPlace, inside}
+use Rattle.rules.specs.Step.{firstPlace, inside, thrownAt, decision}
 use Rattle.operands.specs.declared.jump.Target.{Target}
 use Rattle.operands.specs.declared.jump.Target.the-variants as Target
 use Rattle.operands.specs.Target.{targetOf}
@@ -106,5 +107,12 @@ abbrev pub readDecision : List ℕ → ℕ → Located → Read → Decision
 readDecision code pc i (Read.Words w) = finishOf code pc i (w .a) (effectAt (i .op) (i .constant) (w .a) (w .b) (w .c) (w .d))
 readDecision code pc i (Read.Refused n) = Decision.Refused n
 
-unfoldable pub locatedDecision : Method → List ℕ → ℕ → Located → Decision
-locatedDecision l slots pc i = readDecision (l .code) pc i (readOf (l .kinds) (l .words) slots (i .op) (i .index) (i .base))
+unfoldable pub locatedDecision : List ℕ → List ℕ → List ℕ → List ℕ → ℕ → Located → Decision
+locatedDecision code kinds words slots pc i = readDecision code pc i (readOf kinds words slots (i .op) (i .index) (i .base))
+
+-- a throw, which is not looked up in the handlers yet, by them
+abbrev pub caught : Method → State → Decision → Decision
+caught l s (Decision.Ordinary u) = Decision.Ordinary u
+caught l s (Decision.Return v) = Decision.Return v
+caught l s Decision.Throw = decision (thrownAt l s (s .pc))
+caught l s (Decision.Refused n) = Decision.Refused n

@@ -28,18 +28,19 @@ pub(crate) fn advance_framed(
     code: &[u8],
     kinds: &[u8],
     words: &[u32],
+    handlers: &[u8],
     slots: &mut [u32],
     s: State,
     most: u64,
 ) -> Reached
-    requires { ⌜ frameCheck (method (now code) (now kinds) (now words)) s (length (now slots)) ≡ passed tt ⌝ }
-    ensures { λ r. ⌜ reached r (now (slots .exit)) ≡ advanceFrom (method (now (code .entry)) (now (kinds .entry)) (now (words .entry))) most 0 s (now (slots .entry)) ⌝ }
+    requires { ⌜ frameCheck (method (now code) (now kinds) (now words) (now handlers)) s (length (now slots)) ≡ passed tt ⌝ }
+    ensures { λ r. ⌜ reached r (now (slots .exit)) ≡ advanceFrom (method (now (code .entry)) (now (kinds .entry)) (now (words .entry)) (now (handlers .entry))) most 0 s (now (slots .entry)) ⌝ }
     ensures { λ r. ⌜ r .steps ≤ most ⌝ }
 {
     let mut t = s;
     let mut steps: u64 = 0;
     loop {
-        let decision = decide_framed(code, kinds, words, slots, t);
+        let decision = decide_framed(code, kinds, words, handlers, slots, t);
         let Decision::Ordinary(u) = decision else {
             return Reached {
                 state: t,
@@ -65,11 +66,12 @@ pub fn advance(
     code: &[u8],
     kinds: &[u8],
     words: &[u32],
+    handlers: &[u8],
     slots: &mut [u32],
     s: State,
     most: u64,
 ) -> Reached
-    ensures { λ r. ⌜ reached r (now (slots .exit)) ≡ advanceFrom (method (now (code .entry)) (now (kinds .entry)) (now (words .entry))) most 0 s (now (slots .entry)) ⌝ }
+    ensures { λ r. ⌜ reached r (now (slots .exit)) ≡ advanceFrom (method (now (code .entry)) (now (kinds .entry)) (now (words .entry)) (now (handlers .entry))) most 0 s (now (slots .entry)) ⌝ }
 {
     let asked = check_frame(code, kinds, words, slots, s);
     match asked {
@@ -78,6 +80,6 @@ pub fn advance(
             steps: 0,
             decision: Decision::Refused(n),
         },
-        Checked::Passed => advance_framed(code, kinds, words, slots, s, most),
+        Checked::Passed => advance_framed(code, kinds, words, handlers, slots, s, most),
     }
 }

@@ -1,4 +1,4 @@
-// One step, decided with nothing written: questions 1 to 10 in their order, what the instruction does, and question 32 of a return.
+// One step, decided with nothing written: questions 1 to 10 in their order, what the instruction does, the handlers of a throw, and question 32 of a return.
 use crate::finishing::Located;
 use crate::finishing::finish;
 use crate::finishing::locate;
@@ -8,6 +8,7 @@ use effects::effect;
 use frame::Placed;
 use frame::check_frame;
 use frame::place;
+use handlers::throw_at;
 use instructions::Decoded;
 use instructions::decode;
 use return_types::settle;
@@ -26,7 +27,7 @@ ghost use Rattle.rules.specs.Step.{decideOf};
 ghost use Rattle.return_types.specs.Settled.{settled};
 ghost use Rattle.interpreter.specs.Stages.{locatedDecision};
 
-// Question 9, what the instruction does, and question 10.
+// Question 9, what the instruction does, and question 10; a throw is not looked up in the handlers yet.
 fn decide_located(
     code: &[u8],
     kinds: &[u8],
@@ -37,7 +38,7 @@ fn decide_located(
 ) -> Decision
     requires { ⌜ length (now code) ≤ 65535 ⌝ }
     requires { ⌜ isIn sharedOpcodes (i .op) ≡ true ⌝ }
-    ensures { λ r. ⌜ r ≡ locatedDecision (method (now (code .entry)) (now (kinds .entry)) (now (words .entry))) (now (slots .entry)) pc i ⌝ }
+    ensures { λ r. ⌜ r ≡ locatedDecision (now (code .entry)) (now (kinds .entry)) (now (words .entry)) (now (slots .entry)) pc i ⌝ }
 {
     let read = read_words(kinds, words, slots, i.op, i.index, i.base);
     match read {
@@ -54,11 +55,12 @@ pub(crate) fn decide_framed(
     code: &[u8],
     kinds: &[u8],
     words: &[u32],
+    handlers: &[u8],
     slots: &[u32],
     s: State,
 ) -> Decision
-    requires { ⌜ frameCheck (method (now code) (now kinds) (now words)) s (length (now slots)) ≡ passed tt ⌝ }
-    ensures { λ r. ⌜ settled (s .«return_type») r ≡ decideOf (method (now (code .entry)) (now (kinds .entry)) (now (words .entry))) s (now (slots .entry)) ⌝ }
+    requires { ⌜ frameCheck (method (now code) (now kinds) (now words) (now handlers)) s (length (now slots)) ≡ passed tt ⌝ }
+    ensures { λ r. ⌜ settled (s .«return_type») r ≡ decideOf (method (now (code .entry)) (now (kinds .entry)) (now (words .entry)) (now (handlers .entry))) s (now (slots .entry)) ⌝ }
 {
     let pc = s.pc;
     let decoded = decode(code, pc);
@@ -76,7 +78,11 @@ pub(crate) fn decide_framed(
                 Placed::At { base, depth } => {
                     let next = pc as usize + size;
                     let i = locate(entry, index, constant, next, base, depth);
-                    decide_located(code, kinds, words, slots, pc, i)
+                    let decision = decide_located(code, kinds, words, slots, pc, i);
+                    let Decision::Throw = decision else {
+                        return decision;
+                    };
+                    throw_at(code, kinds, words, handlers, s, pc)
                 }
             }
         }
@@ -84,14 +90,21 @@ pub(crate) fn decide_framed(
 }
 
 // One step on any code, pool, slots and state.
-pub fn decide(code: &[u8], kinds: &[u8], words: &[u32], slots: &[u32], s: State) -> Decision
-    ensures { λ r. ⌜ r ≡ decideOf (method (now (code .entry)) (now (kinds .entry)) (now (words .entry))) s (now (slots .entry)) ⌝ }
+pub fn decide(
+    code: &[u8],
+    kinds: &[u8],
+    words: &[u32],
+    handlers: &[u8],
+    slots: &[u32],
+    s: State,
+) -> Decision
+    ensures { λ r. ⌜ r ≡ decideOf (method (now (code .entry)) (now (kinds .entry)) (now (words .entry)) (now (handlers .entry))) s (now (slots .entry)) ⌝ }
 {
     let asked = check_frame(code, kinds, words, slots, s);
     match asked {
         Checked::Refused(n) => Decision::Refused(n),
         Checked::Passed => {
-            let decision = decide_framed(code, kinds, words, slots, s);
+            let decision = decide_framed(code, kinds, words, handlers, slots, s);
             settle(s.return_type, decision)
         }
     }

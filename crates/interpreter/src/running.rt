@@ -48,17 +48,18 @@ fn run_framed(
     code: &[u8],
     kinds: &[u8],
     words: &[u32],
+    handlers: &[u8],
     slots: &mut [u32],
     s: State,
     budget: u64,
 ) -> Ran
-    requires { ⌜ frameCheck (method (now code) (now kinds) (now words)) s (length (now slots)) ≡ passed tt ⌝ }
-    ensures { λ r. ⌜ ran r (now (slots .exit)) ≡ runFrom (machine (now (code .entry)) (now (kinds .entry)) (now (words .entry))) budget 0 s (now (slots .entry)) ⌝ }
+    requires { ⌜ frameCheck (method (now code) (now kinds) (now words) (now handlers)) s (length (now slots)) ≡ passed tt ⌝ }
+    ensures { λ r. ⌜ ran r (now (slots .exit)) ≡ runFrom (machine (now (code .entry)) (now (kinds .entry)) (now (words .entry)) (now (handlers .entry))) budget 0 s (now (slots .entry)) ⌝ }
 {
     if budget == 0 {
         return ended(s, 0, End::Stopped);
     }
-    let reached = advance_framed(code, kinds, words, slots, s, budget - 1);
+    let reached = advance_framed(code, kinds, words, handlers, slots, s, budget - 1);
     let t = reached.state;
     let decision = reached.decision;
     let Decision::Ordinary(u) = decision else {
@@ -80,12 +81,13 @@ pub fn run(
     code: &[u8],
     kinds: &[u8],
     words: &[u32],
+    handlers: &[u8],
     slots: &mut [u32],
     s: State,
     budget: u64,
 ) -> Ran
-    ensures { λ r. ⌜ ran r (now (slots .exit)) ≡ runOf (machine (now (code .entry)) (now (kinds .entry)) (now (words .entry))) budget s (now (slots .entry)) ⌝ }
-    ensures { λ r. ⌜ Account (machine (now (code .entry)) (now (kinds .entry)) (now (words .entry))) budget s (now (slots .entry)) (ran r (now (slots .exit))) ⌝ }
+    ensures { λ r. ⌜ ran r (now (slots .exit)) ≡ runOf (machine (now (code .entry)) (now (kinds .entry)) (now (words .entry)) (now (handlers .entry))) budget s (now (slots .entry)) ⌝ }
+    ensures { λ r. ⌜ Account (machine (now (code .entry)) (now (kinds .entry)) (now (words .entry)) (now (handlers .entry))) budget s (now (slots .entry)) (ran r (now (slots .exit))) ⌝ }
 {
     let asked = check_frame(code, kinds, words, slots, s);
     match asked {
@@ -94,6 +96,6 @@ pub fn run(
             steps: 0,
             end: End::Refused(n),
         },
-        Checked::Passed => run_framed(code, kinds, words, slots, s, budget),
+        Checked::Passed => run_framed(code, kinds, words, handlers, slots, s, budget),
     }
 }

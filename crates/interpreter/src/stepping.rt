@@ -29,10 +29,17 @@ pub fn moved(s: State, pc: u32, depth: u32, count: u64) -> State
 }
 
 // A step without history: an ordinary one moves the state, with count 0, and writes its words; any other changes nothing.
-pub fn step(code: &[u8], kinds: &[u8], words: &[u32], slots: &mut [u32], s: State) -> Stepped
-    ensures { λ r. ⌜ stepped r (now (slots .exit)) ≡ stepOf (machine (now (code .entry)) (now (kinds .entry)) (now (words .entry))) s (now (slots .entry)) ⌝ }
+pub fn step(
+    code: &[u8],
+    kinds: &[u8],
+    words: &[u32],
+    handlers: &[u8],
+    slots: &mut [u32],
+    s: State,
+) -> Stepped
+    ensures { λ r. ⌜ stepped r (now (slots .exit)) ≡ stepOf (machine (now (code .entry)) (now (kinds .entry)) (now (words .entry)) (now (handlers .entry))) s (now (slots .entry)) ⌝ }
 {
-    let reached = advance(code, kinds, words, slots, s, 0);
+    let reached = advance(code, kinds, words, handlers, slots, s, 0);
     let decision = reached.decision;
     let Decision::Ordinary(u) = decision else {
         return Stepped {

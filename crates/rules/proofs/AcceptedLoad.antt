@@ -16,10 +16,11 @@ use Rattle.rules.specs.Check.{Check, passed, refused, _>>=_, _>>_}
 use Rattle.rules.specs.Fetch.{u8}
 use Rattle.rules.specs.Questions.{method}
 use Rattle.rules.specs.Step.{frame}
-use Rattle.rules.specs.Sheet.{recordEnd, isWide, sheetCheck, memoryCheck, Pool, withWords, withValue, poolFrom, loadedPool, argumentsFrom, loadedFrame, loadedSlots, loadedState, acceptedLoad, loadBy, loadOf, codeOf}
+use Rattle.rules.specs.Sheet.{recordEnd, isWide, sheetCheck, memoryCheck, Pool, withWords, withValue, poolFrom, loadedPool, argumentsFrom, loadedFrame, loadedSlots, loadedState, handlersLength, acceptedLoad, loadBy, loadOf, partOf, codeOf, handlersOf}
 use Rattle.rules.proofs.Check.{first-passed, last-passed}
 use Rattle.rules.proofs.Questions.{Framed}
-use Rattle.rules.proofs.Sheet.{Within, sheet-within, code-near, sheet-numbered, memory-above, load-accepted}
+use Rattle.rules.proofs.Sheet.{sheet-numbered, memory-above, load-accepted}
+use Rattle.rules.proofs.Placement.{Within, sheet-within}
 
 -- ---- lengths
 
@@ -68,16 +69,23 @@ module _ (sheet slots kinds words : List ℕ) (bytes : (i : ℕ) → u8 sheet i 
   within : Within sheet p
   within = sheet-within sheet p read .0
 
-  last : p .last ≡ 5
+  last : p .last ≡ 6
   last = sheet-within sheet p read .1
 
+  code-there : p .code + p .«code_length» ≤ length sheet
+  code-there = let e = last in omega (arith, within .code-first, within .handlers-first (omega arith), within .arguments-there (omega arith))
+
   pub code-is : code ≡ take (p .«code_length») (drop (p .code) sheet)
-  code-is = let e = last in rw (le-leb (p .code + p .«code_length») (length sheet) (within .code-there (omega arith)))
+  code-is = rw (le-leb (p .code + p .«code_length») (length sheet) code-there)
+
+  pub handlers-is : handlersOf sheet (acceptedLoad p) ≡ take (handlersLength p) (drop (p .handlers) sheet)
+  handlers-is =
+      let e = last in
+      rw (le-leb (p .handlers + handlersLength p) (length sheet) (omega (arith, within .handlers-first (omega arith), within .arguments-there (omega arith))))
 
   code-length : length code ≡ p .«code_length»
   code-length =
-      let e = last in
-      ap length code-is ∙ length-take-le (p .«code_length») (drop (p .code) sheet) (omega (arith, within .code-there (omega arith), length-drop (p .code) sheet))
+      ap length code-is ∙ length-take-le (p .«code_length») (drop (p .code) sheet) (omega (arith, code-there, length-drop (p .code) sheet))
 
   pub frame-length : length (loadedFrame sheet p) ≡ p .«max_locals» + p .«max_stack»
   frame-length =
@@ -91,7 +99,7 @@ module _ (sheet slots kinds words : List ℕ) (bytes : (i : ℕ) → u8 sheet i 
   pub beyond-is : drop (p .«max_locals» + p .«max_stack») (loadedSlots sheet p slots) ≡ drop (p .«max_locals» + p .«max_stack») slots
   beyond-is = drop-at (loadedFrame sheet p) (drop (p .«max_locals» + p .«max_stack») slots) (p .«max_locals» + p .«max_stack») frame-length
 
-  pub loaded-framed : Framed (method code (loadedPool sheet p kinds words .kinds) (loadedPool sheet p kinds words .words)) state (length (loadedSlots sheet p slots))
+  pub loaded-framed : Framed (method code (loadedPool sheet p kinds words .kinds) (loadedPool sheet p kinds words .words) (handlersOf sheet (acceptedLoad p))) state (length (loadedSlots sheet p slots))
   unfolding memoryCheck
   loaded-framed =
       let e = last in
@@ -135,13 +143,15 @@ module _ (sheet slots kinds words : List ℕ) where
       go (passed p) q k = by-memory p q (memoryCheck p slots kinds words) refl k
       go (refused m) q k = let z : _≡_ {A = ℕ} 0 1 = cc in absurd (omega arith)
 
--- ---- what an accepted load says: where the code lies, and its sizes
+-- ---- what an accepted load says: where code and handlers lie, and its sizes
 
--- the load and where its code lies, by the reading
 pub record Said (sheet : List ℕ) (x : Loaded) : Type 0 where
   pub starts : x .code ≤ 65551
   pub short : x .«code_length» ≤ 65535
   pub is-part : codeOf sheet x ≡ take (x .«code_length») (drop (x .code) sheet)
+  -- at most 65,535 constants of fifteen bytes stand between the code's end and the handlers
+  pub handlers-near : x .handlers ≤ 1114111
+  pub handlers-part : handlersOf sheet x ≡ take (x .«handlers_length») (drop (x .handlers) sheet)
   pub small-stack : x .state .«max_stack» ≤ 65535
   pub small-locals : x .state .«max_locals» ≤ 65535
 
@@ -149,12 +159,15 @@ pub accepted-said : (sheet slots kinds words : List ℕ) → ((i : ℕ) → u8 s
 accepted-said sheet slots kinds words bytes h =
     let r = was-read sheet slots kinds words h in
     let p = r .reading in
-    let w = sheet-within sheet p (r .read) .0 in
+    let (w, last) = sheet-within sheet p (r .read) in
+    let read-whole : 3 ≤ p .last = omega arith in
     rw (← load-accepted sheet slots kinds words p (r .read) (r .fits) (loadedPool sheet p kinds words) refl)
     (record {
-      starts = code-near sheet bytes p (r .read);
+      starts = w .code-near bytes read-whole;
       short = w .short-code bytes;
       is-part = code-is sheet slots kinds words bytes p (r .read) (r .fits);
+      handlers-near = omega (arith, w .code-near bytes read-whole, w .short-code bytes, w .pool-short read-whole, w .indices-short);
+      handlers-part = handlers-is sheet slots kinds words bytes p (r .read) (r .fits);
       small-stack = w .small-stack bytes;
       small-locals = w .small-locals bytes;
     })

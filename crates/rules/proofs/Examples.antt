@@ -52,7 +52,7 @@ ran l budget s slots = runOf (coreMachine l) budget s slots
 -- one instruction of one byte, on an operand stack that holds these words, lowest first, and room for eight
 unfoldable pub on : ℕ → List ℕ → Decision
 unfolding decided
-on op ws = decided (method (op ∷ 0 ∷ []) [] []) (state 8 0 0 (length ws) 0) (ws ++ replicate (8 - length ws) 0)
+on op ws = decided (method (op ∷ 0 ∷ []) [] [] []) (state 8 0 0 (length ws) 0) (ws ++ replicate (8 - length ws) 0)
 
 -- it leaves these words, all of them pushed
 abbrev pub leaves : List ℕ → Decision
@@ -63,7 +63,7 @@ leaves ws = changes 1 (length ws) 0 ws
 pub record Marked : Type 0 where
   pub idiv-minimum : on 108 (0x80000000 ∷ 0xffffffff ∷ []) ≡ leaves (0x80000000 ∷ [])
   pub irem-minimum : on 112 (0x80000000 ∷ 0xffffffff ∷ []) ≡ leaves (0 ∷ [])
-  pub iinc-255 : decided (method (132 ∷ 0 ∷ 255 ∷ 0 ∷ []) [] []) (state 0 1 0 0 0) (0 ∷ []) ≡ changes 3 0 0 (0xffffffff ∷ [])
+  pub iinc-255 : decided (method (132 ∷ 0 ∷ 255 ∷ 0 ∷ []) [] [] []) (state 0 1 0 0 0) (0 ∷ []) ≡ changes 3 0 0 (0xffffffff ∷ [])
   pub lcmp-minimum : on 148 (0 ∷ 0x80000000 ∷ 1 ∷ 0 ∷ []) ≡ leaves (0xffffffff ∷ [])
   pub f2i-large : on 139 (0x4f000000 ∷ []) ≡ leaves (0x7fffffff ∷ [])
   pub f2i-nan : on 139 (0x7fc00000 ∷ []) ≡ leaves (0 ∷ [])
@@ -102,6 +102,6 @@ marked =
 
 -- ---- the printed walk: 3 + 4, returned after three ordinary steps
 
-pub printed : ran (method (6 ∷ 7 ∷ 0x60 ∷ 0xac ∷ []) [] []) 1600 (state 2 0 0 0 0) (0 ∷ 0 ∷ []) ≡ record { state = state 2 0 3 1 0; steps = 3; end = End.Return (Int 7); slots = 7 ∷ 4 ∷ [] }
+pub printed : ran (method (6 ∷ 7 ∷ 0x60 ∷ 0xac ∷ []) [] [] []) 1600 (state 2 0 0 0 0) (0 ∷ 0 ∷ []) ≡ record { state = state 2 0 3 1 0; steps = 3; end = End.Return (Int 7); slots = 7 ∷ 4 ∷ [] }
 unfolding ran
 printed = refl

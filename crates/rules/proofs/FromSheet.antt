@@ -16,13 +16,13 @@ use Rattle.rules.specs.Check.{passed}
 use Rattle.rules.specs.Fetch.{u8, u32}
 use Rattle.rules.specs.Questions.{Method, method}
 use Rattle.rules.specs.Step.{Decider, machineBy}
-use Rattle.rules.specs.Sheet.{recordEnd, poolIndex, poolTag, isWide, sheetCheck, memoryCheck, Pool, withWords, withValue, poolFrom, poolStart, poolEnd, loadedPool, argumentsFrom, loadedFrame, loadedSlots, loadedState, acceptedLoad, AfterLoad, loadOf, codeOf}
+use Rattle.rules.specs.Sheet.{recordEnd, poolIndex, poolTag, isWide, sheetCheck, memoryCheck, Pool, withWords, withValue, poolFrom, poolStart, loadedPool, handlersLength, argumentsFrom, loadedFrame, loadedSlots, loadedState, acceptedLoad, AfterLoad, loadOf, codeOf, handlersOf}
 use Rattle.rules.specs.PlainWalk.{Stage, stageOf, PlainWalk, Press}
 use Rattle.rules.specs.Walk.{Walked, walkOf, Demand3}
 use Rattle.rules.specs.FromSheet.{Lengths, placesFrom, placesBy, kindBy, wordBy, throughRecords, inPool, sheetMethod, argumentOrZero, stage0, plainWalkBy, readingOf, plainWalkOf}
 use Rattle.rules.specs.Presses.{loadedMethod, plainWalkIn}
 use Rattle.rules.proofs.Sheet.{load-accepted}
-use Rattle.rules.proofs.AcceptedLoad.{length-words, pool-kinds, pool-words, length-arguments, code-is, frame-length, frame-is, loaded-framed, was-read}
+use Rattle.rules.proofs.AcceptedLoad.{length-words, pool-kinds, pool-words, length-arguments, code-is, handlers-is, frame-length, frame-is, loaded-framed, was-read}
 use Rattle.rules.proofs.Lawful.{Lawful}
 use Rattle.rules.proofs.Walk.{walkFrom, whole-list}
 
@@ -141,21 +141,28 @@ module _ (sheet slots kinds words : List ℕ) (bytes : (i : ℕ) → u8 sheet i 
   kinds-given : loadedPool sheet p kinds words .kinds ≡ placesBy (length (loadedPool sheet p kinds words .kinds)) (inPool kindBy sheet p)
   kinds-given = places-are _ (inPool kindBy sheet p) (λ i h.
       let k : i < length kinds = omega (arith, long-kinds) in
-      kinds-through sheet (poolEnd p) (poolEnd p - poolStart p) (poolStart p) _ i (omega (arith, length-replicate {A = ℕ} (length kinds) 0))
-      ∙ ap (throughRecords kindBy (poolEnd p - poolStart p) sheet (poolStart p) (poolEnd p) i) (getD-replicate (length kinds) i 0 0 k))
+      kinds-through sheet (p .handlers) (p .handlers - poolStart p) (poolStart p) _ i (omega (arith, length-replicate {A = ℕ} (length kinds) 0))
+      ∙ ap (throughRecords kindBy (p .handlers - poolStart p) sheet (poolStart p) (p .handlers) i) (getD-replicate (length kinds) i 0 0 k))
 
   words-given : loadedPool sheet p kinds words .words ≡ placesBy (length (loadedPool sheet p kinds words .words)) (inPool wordBy sheet p)
   words-given = places-are _ (inPool wordBy sheet p) (λ i h.
       let k : i < length words = omega (arith, long-words) in
-      words-through sheet (poolEnd p) (poolEnd p - poolStart p) (poolStart p) _ i (omega (arith, length-replicate {A = ℕ} (length words) 0))
-      ∙ ap (throughRecords wordBy (poolEnd p - poolStart p) sheet (poolStart p) (poolEnd p) i) (getD-replicate (length words) i 0 0 k))
+      words-through sheet (p .handlers) (p .handlers - poolStart p) (poolStart p) _ i (omega (arith, length-replicate {A = ℕ} (length words) 0))
+      ∙ ap (throughRecords wordBy (p .handlers - poolStart p) sheet (poolStart p) (p .handlers) i) (getD-replicate (length words) i 0 0 k))
 
   -- THE LAW: the method that it leaves is what the sheet gives over these lengths
-  pub method-given : (log : ℕ) → method (codeOf sheet (acceptedLoad p)) (loadedPool sheet p kinds words .kinds) (loadedPool sheet p kinds words .words) ≡ sheetMethod sheet p (lengths log)
+  pub method-given : (log : ℕ)
+      → method (codeOf sheet (acceptedLoad p)) (loadedPool sheet p kinds words .kinds) (loadedPool sheet p kinds words .words) (handlersOf sheet (acceptedLoad p)) ≡ sheetMethod sheet p (lengths log)
   method-given log =
-      ap (λ (c : List ℕ). method c (loadedPool sheet p kinds words .kinds) (loadedPool sheet p kinds words .words)) (code-is sheet slots kinds words bytes p read fits)
-      ∙ ap (λ (k : List ℕ). method (take (p .«code_length») (drop (p .code) sheet)) k (loadedPool sheet p kinds words .words)) kinds-given
-      ∙ ap (λ (w : List ℕ). method (take (p .«code_length») (drop (p .code) sheet)) (placesBy (length (loadedPool sheet p kinds words .kinds)) (inPool kindBy sheet p)) w) words-given
+      ap (λ (c : List ℕ). method c (loadedPool sheet p kinds words .kinds) (loadedPool sheet p kinds words .words) (handlersOf sheet (acceptedLoad p))) (code-is sheet slots kinds words bytes p read fits)
+      ∙ ap (λ (k : List ℕ). method code k (loadedPool sheet p kinds words .words) (handlersOf sheet (acceptedLoad p))) kinds-given
+      ∙ ap (λ (w : List ℕ). method code (placesBy (length (loadedPool sheet p kinds words .kinds)) (inPool kindBy sheet p)) w (handlersOf sheet (acceptedLoad p))) words-given
+      ∙ ap (λ (h : List ℕ).
+      method code (placesBy (length (loadedPool sheet p kinds words .kinds)) (inPool kindBy sheet p)) (placesBy (length (loadedPool sheet p kinds words .words)) (inPool wordBy sheet p)) h)
+      (handlers-is sheet slots kinds words bytes p read fits)
+    where
+      code : List ℕ
+      code = take (p .«code_length») (drop (p .code) sheet)
 
   -- and so is stage 0
   pub stage-given : stageOf (loadedState (p .«max_stack») (p .«max_locals») (p .«return_type»)) (loadedSlots sheet p slots) ≡ stage0 sheet p
@@ -170,7 +177,7 @@ module _ (sheet slots kinds words : List ℕ) (bytes : (i : ℕ) → u8 sheet i 
     build log l t = record { machine = machineBy rules l; slots = length (loadedSlots sheet p slots); log = length log; state = loadedState (p .«max_stack») (p .«max_locals») (p .«return_type»); first = t }
 
     walk-given : (log : List ℕ)
-        → walkFrom (machineBy rules (method (codeOf sheet (acceptedLoad p)) (loadedPool sheet p kinds words .kinds) (loadedPool sheet p kinds words .words)))
+        → walkFrom (machineBy rules (method (codeOf sheet (acceptedLoad p)) (loadedPool sheet p kinds words .kinds) (loadedPool sheet p kinds words .words) (handlersOf sheet (acceptedLoad p))))
         (loadedState (p .«max_stack») (p .«max_locals») (p .«return_type»)) (loadedSlots sheet p slots) log
         ≡ plainWalkOf rules sheet (lengths (length log))
     walk-given log =

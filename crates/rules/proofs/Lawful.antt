@@ -1,8 +1,11 @@
 -- ALL that the run's account and demand 3 ask of a machine, and that the rules of the 164 instructions have it. Assumes nothing.
 use Prim.Native.Nat.{ℕ, _-_, _≤_}
 use mathlib.Core.Path.{_≡_, refl, ap, subst, _∙_}
+use mathlib.Core.Bool.{cond}
 use mathlib.Core.List.{List}
+use mathlib.Core.Option.{Option, none, some}
 use native.Mathlib.Omega.{arith}
+use lib.Dec.{eqb}
 use Rattle.rules.specs.declared.State.{State}
 use Rattle.rules.specs.declared.Update.{Update}
 use Rattle.rules.specs.declared.Decision.{Decision}
@@ -10,8 +13,9 @@ use Rattle.rules.specs.declared.Decision.the-variants.{Ordinary}
 use Rattle.rules.specs.Check.{Check, _>>_}
 use Rattle.rules.specs.Forms.{Result, pushes, stores, divides, branches, returns, Source, stack, local, pool}
 use Rattle.rules.specs.Fetch.{Instruction, fetched}
-use Rattle.rules.specs.Questions.{Method, frameSize, frameCheck, needsCheck}
-use Rattle.rules.specs.Step.{wordsAt, outcome, decision, decideFrame, Decided, Machine, coreRules, coreMachine}
+use Rattle.rules.specs.Questions.{Method, frameSize, pushed, frameCheck, needsCheck}
+use Rattle.rules.specs.Handlers.{handlerAt}
+use Rattle.rules.specs.Step.{base, wordsAt, ordinary, following, thrownTo, thrownAt, outcome, decision, decideFrame, Decided, Machine, coreRules, coreMachine}
 use Rattle.rules.specs.Run.{uncounted}
 use Rattle.rules.proofs.Check.{bind-same}
 use Rattle.rules.proofs.Step.{result}
@@ -35,10 +39,15 @@ ordinary-by x law n s words u e = subst (IfOrdinary (Legal (x .runs) s n)) e (la
 -- ---- the rules of the 164 instructions
 
 module _ (l : Method) (n : ℕ) (s : State) (words : List ℕ) where
+  thrown-same : (x : Option ℕ) → thrownTo (l .code) (uncounted s) x ≡ thrownTo (l .code) s x
+  thrown-same none = refl
+  thrown-same (some h) = refl
+
   outcome-same : (i : Instruction) (r : Result) → outcome l (uncounted s) i r ≡ outcome l s i r
+  unfolding thrownAt
   outcome-same i (pushes ws) = refl
   outcome-same i (stores ws) = refl
-  outcome-same i (divides by ws) = refl
+  outcome-same i (divides by ws) = ap (λ (x : Check Decision). cond (eqb by 0) x (ordinary l s i (following s i) (base s i) (pushed i) ws)) (thrown-same (handlerAt (l .kinds) (l .words) (l .handlers) (s .pc)))
   outcome-same i (branches t z) = refl
   outcome-same i (returns v) = refl
 

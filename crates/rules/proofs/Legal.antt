@@ -3,12 +3,13 @@ use Prim.Native.Nat.{ℕ, zero, suc, _+_, _≤_, _<_}
 use mathlib.Core.Path.{_≡_, subst}
 use mathlib.Core.Bool.{true, cond}
 use mathlib.Core.List.{List, []}
+use mathlib.Core.Option.{Option, none, some}
 use native.Mathlib.Omega.{arith}
 use lib.Dec.{eqb}
 use lib.ListN.{length}
 use lib.Seq.{length-paste}
 use lib.IntN.{ℤ, pos, negsuc}
-use borrow.Author.Tests.{ltb-true}
+use borrow.Author.Tests.{ltb-true, leb-true}
 use Rattle.values.specs.Kinds.{placesOf}
 use Rattle.rules.specs.declared.State.{State}
 use Rattle.rules.specs.declared.Update.{Update}
@@ -20,7 +21,8 @@ use Rattle.rules.specs.Instructions.{rowOf}
 use Rattle.rules.specs.Fetch.{Instruction, fetched}
 use Rattle.rules.specs.Returns.{returned}
 use Rattle.rules.specs.Questions.{Method, frameSize, pushed, frameCheck, needsCheck}
-use Rattle.rules.specs.Step.{frame, base, firstPlace, inside, ordinary, following, target, outcome, decision, decideFrame, decideOf, moved, updateWords, written}
+use Rattle.rules.specs.Handlers.{handlerAt}
+use Rattle.rules.specs.Step.{frame, base, firstPlace, inside, ordinary, following, target, thrownTo, thrownAt, outcome, decision, decideFrame, decideOf, moved, updateWords, written}
 use Rattle.rules.proofs.Check.{Holds, asked, after, bound, held, either}
 use Rattle.rules.proofs.Rows.{of-row, small, small-row, few-pushed, one-named, few-named, local-within}
 use Rattle.rules.proofs.Questions.{Framed, framed, Needed, needed}
@@ -101,11 +103,24 @@ module _ (l : Method) (n : ℕ) (s : State) where
         ordinary-fine (following s i) (i .operand .index) (placesOf (i .rule .locals)) ws (few-named one) (placed _ _ _ (λ h.
         let c = local-within (s .«max_locals») (i .operand .index) one (needs .local-there) h in omega arith))
 
+    thrown-fine : (x : Option ℕ) → Holds Fine (thrownTo (l .code) s x)
+    unfolding Holds Fine InCode
+    thrown-fine none = tt
+    thrown-fine (some h) = asked Fine _ 8 _ (λ t.
+        let one = leb-true 1 (s .«max_stack») t in
+        bound Fine (inside (l .code) (pos h)) _ (λ p e. record {
+          frame-there = f;
+          new-pc = held InCode (inside (l .code) (pos h)) p (inside-code (pos h)) e;
+          new-depth = one;
+          few = omega arith;
+          within = omega arith;
+        }))
+
     outcome-fine : (r : Result) → Holds Fine (outcome l s i r)
-    unfolding Holds Fine Small
+    unfolding Holds Fine Small thrownAt
     outcome-fine (pushes ws) = pushed-fine ws
     outcome-fine (stores ws) = stored-fine ws
-    outcome-fine (divides by ws) = either Fine (eqb by 0) _ _ tt (pushed-fine ws)
+    outcome-fine (divides by ws) = either Fine (eqb by 0) _ _ (thrown-fine (handlerAt (l .kinds) (l .words) (l .handlers) (s .pc))) (pushed-fine ws)
     outcome-fine (branches t z) = ordinary-fine (cond t (target s z) (following s i)) 0 0 [] (omega arith) (omega arith)
     outcome-fine (returns v) = bound Fine (returned (s .«return_type») v) _ (λ r e. tt)
 

@@ -12,6 +12,7 @@ pub mod Lawful
 pub mod Run
 pub mod History
 pub mod Sheet
+pub mod Placement
 pub mod Standing
 pub mod Characters
 pub mod Names

@@ -19,7 +19,8 @@ use Rattle.rules.specs.Instructions.{rowOf}
 use Rattle.rules.specs.Fetch.{u8, Instruction, coreRow, core, sized, wideOpcode, wideCheck, tableCheck, lookupCheck, byFormat, fetched}
 use Rattle.rules.specs.Returns.{returned}
 use Rattle.rules.specs.Questions.{Method, pushed, frameCheck, needsCheck}
-use Rattle.rules.specs.Step.{base, inside, ordinary, following, target, outcome, decision, decideFrame}
+use Rattle.rules.specs.Handlers.{handlerAt}
+use Rattle.rules.specs.Step.{base, inside, ordinary, following, target, thrownTo, thrownAt, outcome, decision, decideFrame}
 use Rattle.rules.proofs.Check.{Any, Numbered, last-numbered, after-numbered, bound-numbered, asked-numbered, either-numbered}
 use Rattle.rules.proofs.Step.{result}
 
@@ -104,11 +105,16 @@ module _ (l : Method) (s : State) where
   unfolding Numbered
   ordinary-numbered i to at n ws = bound-numbered OfStep Fine (inside (l .code) to) _ (inside-numbered to) (λ pc. tt)
 
-  outcome-numbered : (i : Instruction) (r : Result) → Numbered OfStep Fine (outcome l s i r)
+  thrown-numbered : (x : Option ℕ) → Numbered OfStep Fine (thrownTo (l .code) s x)
   unfolding Numbered
+  thrown-numbered none = tt
+  thrown-numbered (some h) = asked-numbered OfStep Fine _ 8 _ refl (bound-numbered OfStep Fine (inside (l .code) (pos h)) _ (inside-numbered (pos h)) (λ pc. tt))
+
+  outcome-numbered : (i : Instruction) (r : Result) → Numbered OfStep Fine (outcome l s i r)
+  unfolding Numbered thrownAt
   outcome-numbered i (pushes ws) = ordinary-numbered i (following s i) (base s i) (pushed i) ws
   outcome-numbered i (stores ws) = ordinary-numbered i (following s i) (i .operand .index) (placesOf (i .rule .locals)) ws
-  outcome-numbered i (divides by ws) = either-numbered OfStep Fine (by =ⁿ 0) _ _ tt (ordinary-numbered i (following s i) (base s i) (pushed i) ws)
+  outcome-numbered i (divides by ws) = either-numbered OfStep Fine (by =ⁿ 0) _ _ (thrown-numbered (handlerAt (l .kinds) (l .words) (l .handlers) (s .pc))) (ordinary-numbered i (following s i) (base s i) (pushed i) ws)
   outcome-numbered i (branches t z) = ordinary-numbered i (cond t (target s z) (following s i)) 0 0 []
   outcome-numbered i (returns v) = bound-numbered OfStep Fine (returned (s .«return_type») v) _ (returned-numbered (s .«return_type») v) (λ r. tt)
 

@@ -1,4 +1,4 @@
--- What a sheet that is read says of what was read, and what an accepted load leaves. Assumes nothing.
+-- A sheet question by question and record by record, the numbers of its refusals, and the load by the answers to its questions. Assumes nothing.
 use Prim.Native.Nat.{ℕ, zero, suc, _+_, _-_, _*_, _/_, _%_, _≤_, _<_}
 use mathlib.Core.Path.{_≡_, refl, sym, ap, _∙_}
 use mathlib.Core.Bool.{Bool, true, false, not, _||_, cond}
@@ -8,12 +8,13 @@ use lib.Dec.{ltb, leb, eqb}
 use lib.ListN.{length}
 use borrow.Author.Tests.{ltb-true, leb-true, le-leb, lt-leb, le-ltb, lt-ltb, eqb-true}
 use Rattle.rules.specs.declared.Mark.{Mark}
-use Rattle.rules.specs.declared.Mark.the-variants.{LM, DS, CD, KI, AR}
+use Rattle.rules.specs.declared.Mark.the-variants.{LM, DS, CD, KI, EX, AR}
 use Rattle.rules.specs.declared.Reading.{Reading}
 use Rattle.rules.specs.Check.{Check, passed, refused, _else_, _>>=_, _>>_}
 use Rattle.rules.specs.Fetch.{u8, u16}
 use Rattle.rules.specs.Descriptor.{descriptorCheck}
-use Rattle.rules.specs.Sheet.{bodyLength, bodyAt, recordEnd, knownMark, follows, rightLength, descriptorAt, unread, isDescribed, withRecord, poolIndex, poolTag, tagSuits, lastIndex, argumentCount, contentsCheck, contentsRead, markedCheck, recordCheck, endCheck, readFrom, sheetCheck, Pool, withValue, poolFrom, loadedPool, loadedSlots, acceptedLoad, refusedLoad, memoryCheck, loadOf}
+use Rattle.rules.specs.Handlers.{startPc, endPc, handlerPc, catchType}
+use Rattle.rules.specs.Sheet.{bodyLength, bodyAt, recordEnd, knownMark, follows, rightLength, descriptorAt, unread, isDescribed, withRecord, poolIndex, poolTag, poolWord, tagSuits, wordSuits, isCatchType, classFrom, isClassAt, lastIndex, argumentCount, contentsCheck, contentsRead, markedCheck, recordCheck, endCheck, readFrom, sheetCheck, Pool, withValue, poolFrom, loadedPool, loadedSlots, acceptedLoad, refusedLoad, memoryCheck, loadOf}
 use Rattle.rules.proofs.Check.{first-passed, Holds, asked, after, bound, held, either, bind-same, Any, Numbered, last-numbered, after-numbered, bound-numbered, asked-numbered, either-numbered, refused-numbered}
 
 -- ---- a record, question by question
@@ -68,18 +69,57 @@ module _ (sheet : List ℕ) (at : ℕ) (p : Reading) where
   tag-unfit h = simp h
 
   module _ (suits : tagSuits (poolTag sheet at) (bodyLength sheet at) ≡ true) where
-    pub index-used : poolIndex sheet at ≤ p .used → contentsCheck sheet at p KI ≡ refused 25
+    pub word-unfit : wordSuits (poolTag sheet at) (poolWord sheet at) ≡ false → contentsCheck sheet at p KI ≡ refused 25
     unfolding contentsCheck _else_ _>>_
-    index-used h = simp (suits, le-ltb _ _ h)
+    word-unfit h = simp (suits, h)
 
-    module _ (above : p .used < poolIndex sheet at) where
-      pub index-past : 65535 < lastIndex sheet at → contentsCheck sheet at p KI ≡ refused 25
+    module _ (worded : wordSuits (poolTag sheet at) (poolWord sheet at) ≡ true) where
+      pub index-used : poolIndex sheet at ≤ p .used → contentsCheck sheet at p KI ≡ refused 25
       unfolding contentsCheck _else_ _>>_
-      index-past h = simp (suits, lt-ltb _ _ above, lt-leb _ _ h)
+      index-used h = simp (suits, worded, le-ltb _ _ h)
 
-      pub constant-read : lastIndex sheet at ≤ 65535 → contentsCheck sheet at p KI ≡ passed tt
+      module _ (above : p .used < poolIndex sheet at) where
+        pub index-past : 65535 < lastIndex sheet at → contentsCheck sheet at p KI ≡ refused 25
+        unfolding contentsCheck _else_ _>>_
+        index-past h = simp (suits, worded, lt-ltb _ _ above, lt-leb _ _ h)
+
+        pub constant-read : lastIndex sheet at ≤ 65535 → contentsCheck sheet at p KI ≡ passed tt
+        unfolding contentsCheck _else_ _>>_
+        constant-read h = simp (suits, worded, lt-ltb _ _ above, le-leb _ _ h)
+
+  -- 33
+  pub handler-cut : eqb (bodyLength sheet at) 8 ≡ false → contentsCheck sheet at p EX ≡ refused 33
+  unfolding contentsCheck _else_ _>>_
+  handler-cut h = simp h
+
+  module _ (eight : eqb (bodyLength sheet at) 8 ≡ true) where
+    pub no-range : endPc sheet at ≤ startPc sheet at → contentsCheck sheet at p EX ≡ refused 33
+    unfolding contentsCheck _else_ _>>_
+    no-range h = simp (eight, le-ltb _ _ h)
+
+    module _ (some : startPc sheet at < endPc sheet at) where
+      pub start-past : p .«code_length» ≤ startPc sheet at → contentsCheck sheet at p EX ≡ refused 33
       unfolding contentsCheck _else_ _>>_
-      constant-read h = simp (suits, lt-ltb _ _ above, le-leb _ _ h)
+      start-past h = simp (eight, lt-ltb _ _ some, le-ltb _ _ h)
+
+      module _ (start-inside : startPc sheet at < p .«code_length») where
+        pub handler-past : p .«code_length» ≤ handlerPc sheet at → contentsCheck sheet at p EX ≡ refused 33
+        unfolding contentsCheck _else_ _>>_
+        handler-past h = simp (eight, lt-ltb _ _ some, lt-ltb _ _ start-inside, le-ltb _ _ h)
+
+        module _ (handler-inside : handlerPc sheet at < p .«code_length») where
+          pub end-past : p .«code_length» < endPc sheet at → contentsCheck sheet at p EX ≡ refused 33
+          unfolding contentsCheck _else_ _>>_
+          end-past h = simp (eight, lt-ltb _ _ some, lt-ltb _ _ start-inside, lt-ltb _ _ handler-inside, lt-leb _ _ h)
+
+          module _ (whole : endPc sheet at ≤ p .«code_length») where
+            pub no-catch-type : isCatchType sheet p (catchType sheet at) ≡ false → contentsCheck sheet at p EX ≡ refused 33
+            unfolding contentsCheck _else_ _>>_
+            no-catch-type h = simp (eight, lt-ltb _ _ some, lt-ltb _ _ start-inside, lt-ltb _ _ handler-inside, le-leb _ _ whole, h)
+
+            pub handler-read : isCatchType sheet p (catchType sheet at) ≡ true → contentsCheck sheet at p EX ≡ passed tt
+            unfolding contentsCheck _else_ _>>_
+            handler-read h = simp (eight, lt-ltb _ _ some, lt-ltb _ _ start-inside, lt-ltb _ _ handler-inside, le-leb _ _ whole, h)
 
   -- 27
   pub too-many : p .«max_locals» < argumentCount sheet at → contentsCheck sheet at p AR ≡ refused 27
@@ -169,201 +209,29 @@ module _ (sheet : List ℕ) (end : ℕ) where
       ∙ ap (λ (t : Bool). cond t p (poolFrom n sheet (recordEnd sheet at) end (withValue sheet at p))) (lt-leb end at more)
       ∙ pool-enough n (end - recordEnd sheet at) (recordEnd sheet at) (withValue sheet at p) (omega arith) (omega arith)
 
--- ---- what was read lies in the sheet
+-- ---- class by class
 
--- of the code once it is read, and of the arguments once they are
-pub record Within (sheet : List ℕ) (p : Reading) : Type 0 where
-  pub code-there : 3 ≤ p .last → p .code + p .«code_length» ≤ length sheet
-  pub some-code : 3 ≤ p .last → 1 ≤ p .«code_length»
-  pub short-code : ((i : ℕ) → u8 sheet i < 256) → p .«code_length» ≤ 65535
-  pub after-head : 5 ≤ p .last → 4 ≤ p .arguments
-  pub arguments-there : 5 ≤ p .last → p .arguments + 4 * p .«argument_count» ≤ length sheet
-  pub few-arguments : 5 ≤ p .last → p .«argument_count» ≤ p .«max_locals»
-  pub small-stack : ((i : ℕ) → u8 sheet i < 256) → p .«max_stack» ≤ 65535
-  pub small-locals : ((i : ℕ) → u8 sheet i < 256) → p .«max_locals» ≤ 65535
+module _ (sheet : List ℕ) (end index : ℕ) where
+  pub class-end : (n at : ℕ) → end ≤ at → classFrom n sheet at end index ≡ false
+  unfolding classFrom
+  class-end zero at h = refl
+  class-end (suc n) at h = rw (le-leb end at h)
 
--- a KI or an AR record comes after the code
-after-code : (last : ℕ) → (eqb last 3 || eqb last 4) ≡ true → 3 ≤ last
-after-code last e = go (eqb last 3) refl (eqb last 4) refl e
-  where
-    go : (t : Bool) → eqb last 3 ≡ t → (u : Bool) → eqb last 4 ≡ u → (t || u) ≡ true → 3 ≤ last
-    go true p u q r = let k = eqb-true last 3 p in omega arith
-    go false p true q r = let k = eqb-true last 4 q in omega arith
-    go false p false q r = let z : _≡_ {A = ℕ} 0 1 = cc in absurd (omega arith)
+  class-enough : (m n at : ℕ) → end - at ≤ m → end - at ≤ n → classFrom m sheet at end index ≡ classFrom n sheet at end index
+  unfolding classFrom
+  class-enough zero n at h k = sym (class-end n at (omega arith))
+  class-enough (suc m) zero at h k = class-end (suc m) at (omega arith)
+  class-enough (suc m) (suc n) at h k =
+      ap (λ (x : Bool). cond (leb end at) false (isClassAt sheet at index || x)) (class-enough m n (recordEnd sheet at) (omega arith) (omega arith))
 
-module _ (sheet : List ℕ) where
-  W : Reading → Type 0
-  W p = Within sheet p
-
-  body-short : (at : ℕ) → ((i : ℕ) → u8 sheet i < 256) → bodyLength sheet at ≤ 65535
-  body-short at bytes = omega (arith, bytes (at + 2), bytes (at + 2 + 1))
-
-  module _ (at : ℕ) (p : Reading) (h : Within sheet p) (there : recordEnd sheet at ≤ length sheet) where
-    with-within : (m : Mark) → follows m (p .last) ≡ true → rightLength m (bodyLength sheet at) ≡ true → contentsCheck sheet at p m ≡ passed tt → Within sheet (withRecord sheet at m p)
-    unfolding contentsCheck withRecord
-    with-within LM f r c = record {
-      code-there = λ k. absurd (omega arith);
-      some-code = λ k. absurd (omega arith);
-      short-code = h .short-code;
-      after-head = λ k. absurd (omega arith);
-      arguments-there = λ k. absurd (omega arith);
-      few-arguments = λ k. absurd (omega arith);
-      small-stack = λ bytes. omega (arith, bytes (bodyAt at), bytes (bodyAt at + 1));
-      small-locals = λ bytes. omega (arith, bytes (bodyAt at + 2), bytes (bodyAt at + 2 + 1));
-    }
-    with-within DS f r c = record {
-      code-there = λ k. absurd (omega arith);
-      some-code = λ k. absurd (omega arith);
-      short-code = h .short-code;
-      after-head = λ k. absurd (omega arith);
-      arguments-there = λ k. absurd (omega arith);
-      few-arguments = λ k. absurd (omega arith);
-      small-stack = h .small-stack;
-      small-locals = h .small-locals;
-    }
-    with-within CD f r c = record {
-      code-there = λ k. there;
-      some-code = λ k. leb-true _ _ r;
-      short-code = body-short at;
-      after-head = λ k. absurd (omega arith);
-      arguments-there = λ k. absurd (omega arith);
-      few-arguments = λ k. absurd (omega arith);
-      small-stack = h .small-stack;
-      small-locals = h .small-locals;
-    }
-    with-within KI f r c = record {
-      code-there = λ k. h .code-there (after-code (p .last) f);
-      some-code = λ k. h .some-code (after-code (p .last) f);
-      short-code = h .short-code;
-      after-head = λ k. absurd (omega arith);
-      arguments-there = λ k. absurd (omega arith);
-      few-arguments = λ k. absurd (omega arith);
-      small-stack = h .small-stack;
-      small-locals = h .small-locals;
-    }
-    with-within AR f r c = record {
-      code-there = λ k. h .code-there (after-code (p .last) f);
-      some-code = λ k. h .some-code (after-code (p .last) f);
-      short-code = h .short-code;
-      after-head = λ k. omega arith;
-      arguments-there = λ k. let e = eqb-true (bodyLength sheet at % 4) 0 r in omega arith;
-      few-arguments = λ k. leb-true _ _ (first-passed _ 27 _ c .0);
-      small-stack = h .small-stack;
-      small-locals = h .small-locals;
-    }
-
-  record-within : (at : ℕ) (p : Reading) → Within sheet p → Holds W (recordCheck sheet at p)
-  unfolding recordCheck markedCheck Holds W
-  record-within at p h = asked W _ 21 _ (λ _. asked W _ 21 _ (λ there. bound W (knownMark (u16 sheet at)) _ (λ m e.
-      asked W _ 23 _ (λ f. asked W _ 24 _ (λ r. after W (contentsCheck sheet at p m) _ (λ c. with-within at p h (leb-true (recordEnd sheet at) (length sheet) there) m f r c))))))
-
-  -- the whole sheet
-  Complete : Reading → Type 0
-  Complete p = (Within sheet p) × (p .last ≡ 5)
-
-  end-within : (p : Reading) → Within sheet p → Holds Complete (endCheck p)
-  unfolding Holds Complete
-  end-within p h = asked Complete _ 23 _ (λ e. (h, eqb-true _ _ e))
-
-  read-within : (n at : ℕ) (p : Reading) → Within sheet p → Holds Complete (readFrom n sheet at p)
-  unfolding readFrom W
-  read-within zero at p h = end-within p h
-  read-within (suc n) at p h =
-      either Complete (leb (length sheet) at) _ _ (end-within p h) (bound Complete (recordCheck sheet at p) _ (λ q e. read-within n (recordEnd sheet at) q (held W (recordCheck sheet at p) q (record-within at p h) e)))
-
-  pub sheet-within : (p : Reading) → sheetCheck sheet ≡ passed p → (Within sheet p) × (p .last ≡ 5)
-  unfolding sheetCheck Complete
-  sheet-within p e = held Complete (sheetCheck sheet) p (read-within (length sheet) 0 unread nothing-read) e
-    where
-      nothing-read : Within sheet unread
-      nothing-read = record {
-        code-there = λ k. absurd (omega arith);
-        some-code = λ k. absurd (omega arith);
-        short-code = λ b. omega arith;
-        after-head = λ k. absurd (omega arith);
-        arguments-there = λ k. absurd (omega arith);
-        few-arguments = λ k. absurd (omega arith);
-        small-stack = λ b. omega arith;
-        small-locals = λ b. omega arith;
-      }
-
--- ---- the code begins at an offset of 32 bits: before it stand LM, which has four bytes, and at most one DS
-
-record Placed (at : ℕ) (p : Reading) : Type 0 where
-  first : p .last ≡ 0 → at ≡ 0
-  second : p .last ≡ 1 → at ≡ 8
-  third : p .last ≡ 2 → at ≤ 65547
-  code-at : 3 ≤ p .last → p .code ≤ 65551
-
--- a CD record comes after one of these
-before-code : (last : ℕ) → (eqb last 1 || eqb last 2) ≡ true → (P : ℕ → Type 0) → P 1 → P 2 → P last
-before-code last e P one two = go (eqb last 1) refl (eqb last 2) refl e
-  where
-    go : (t : Bool) → eqb last 1 ≡ t → (u : Bool) → eqb last 2 ≡ u → (t || u) ≡ true → P last
-    go true p u q r = rw (eqb-true last 1 p) one
-    go false p true q r = rw (eqb-true last 2 q) two
-    go false p false q r = let z : _≡_ {A = ℕ} 0 1 = cc in absurd (omega arith)
-
-module _ (sheet : List ℕ) (bytes : (i : ℕ) → u8 sheet i < 256) where
-  After : ℕ → Reading → Type 0
-  After at p = Placed (recordEnd sheet at) p
-
-  with-placed : (at : ℕ) (p : Reading) → Placed at p → (m : Mark) → follows m (p .last) ≡ true → rightLength m (bodyLength sheet at) ≡ true → After at (withRecord sheet at m p)
-  unfolding After withRecord
-  with-placed at p h LM f r = record {
-    first = λ e. absurd (omega arith);
-    second = λ e. omega (arith, h .first (eqb-true (p .last) 0 f), eqb-true (bodyLength sheet at) 4 r);
-    third = λ e. absurd (omega arith);
-    code-at = λ k. absurd (omega arith);
-  }
-  with-placed at p h DS f r = record {
-    first = λ e. absurd (omega arith);
-    second = λ e. absurd (omega arith);
-    third = λ e. omega (arith, h .second (eqb-true (p .last) 1 f), body-short sheet at bytes);
-    code-at = λ k. absurd (omega arith);
-  }
-  with-placed at p h CD f r = record {
-    first = λ e. absurd (omega arith);
-    second = λ e. absurd (omega arith);
-    third = λ e. absurd (omega arith);
-    code-at = λ k. before-code (p .last) f (λ n. p .last ≡ n → bodyAt at ≤ 65551) (λ e. omega (arith, h .second e)) (λ e. omega (arith, h .third e)) refl;
-  }
-  with-placed at p h KI f r = record {
-    first = λ e. absurd (omega arith);
-    second = λ e. absurd (omega arith);
-    third = λ e. absurd (omega arith);
-    code-at = λ k. h .code-at (after-code (p .last) f);
-  }
-  with-placed at p h AR f r = record {
-    first = λ e. absurd (omega arith);
-    second = λ e. absurd (omega arith);
-    third = λ e. absurd (omega arith);
-    code-at = λ k. h .code-at (after-code (p .last) f);
-  }
-
-  record-placed : (at : ℕ) (p : Reading) → Placed at p → Holds (After at) (recordCheck sheet at p)
-  unfolding recordCheck markedCheck Holds
-  record-placed at p h = asked (After at) _ 21 _ (λ _. asked (After at) _ 21 _ (λ _. bound (After at) (knownMark (u16 sheet at)) _ (λ m e.
-      asked (After at) _ 23 _ (λ f. asked (After at) _ 24 _ (λ r. after (After at) (contentsCheck sheet at p m) _ (λ _. with-placed at p h m f r))))))
-
-  Near : Reading → Type 0
-  Near p = p .code ≤ 65551
-
-  end-placed : (at : ℕ) (p : Reading) → Placed at p → Holds Near (endCheck p)
-  unfolding Holds Near
-  end-placed at p h = asked Near _ 23 _ (λ e. h .code-at (omega (arith, eqb-true (p .last) 5 e)))
-
-  read-placed : (n at : ℕ) (p : Reading) → Placed at p → Holds Near (readFrom n sheet at p)
-  unfolding readFrom After
-  read-placed zero at p h = end-placed at p h
-  read-placed (suc n) at p h =
-      either Near (leb (length sheet) at) _ _ (end-placed at p h) (bound Near (recordCheck sheet at p) _ (λ q e. read-placed n (recordEnd sheet at) q (held (After at) (recordCheck sheet at p) q (record-placed at p h) e)))
-
-  pub code-near : (p : Reading) → sheetCheck sheet ≡ passed p → p .code ≤ 65551
-  unfolding sheetCheck Near
-  code-near p e =
-      held Near (sheetCheck sheet) p
-      (read-placed (length sheet) 0 unread (record { first = λ e. refl; second = λ e. absurd (omega arith); third = λ e. absurd (omega arith); code-at = λ k. absurd (omega arith) })) e
+  pub next-class : (at : ℕ) → at < end → classFrom (end - at) sheet at end index ≡ (isClassAt sheet at index || classFrom (end - recordEnd sheet at) sheet (recordEnd sheet at) end index)
+  unfolding classFrom
+  next-class at more =
+      let n = end - at - 1 in
+      let e : end - at ≡ suc (end - at - 1) = omega arith in
+      ap (λ (k : ℕ). classFrom k sheet at end index) e
+      ∙ ap (λ (t : Bool). cond t false (isClassAt sheet at index || classFrom n sheet (recordEnd sheet at) end index)) (lt-leb end at more)
+      ∙ ap (λ (x : Bool). isClassAt sheet at index || x) (class-enough n (end - recordEnd sheet at) (recordEnd sheet at) (omega arith) (omega arith))
 
 -- ---- a sheet is refused with a number above 0
 
@@ -373,7 +241,7 @@ Above n = ltb 0 n ≡ true
 module _ (sheet : List ℕ) where
   mark-numbered : (n : ℕ) → Numbered Above Any (knownMark n)
   unfolding Numbered
-  mark-numbered n = either-numbered Above Any (eqb n 0x4C4D) _ _ tt (either-numbered Above Any (eqb n 0x4453) _ _ tt (either-numbered Above Any (eqb n 0x4344) _ _ tt (either-numbered Above Any (eqb n 0x4B49) _ _ tt (either-numbered Above Any (eqb n 0x4152) _ _ tt refl))))
+  mark-numbered n = either-numbered Above Any (eqb n 0x4C4D) _ _ tt (either-numbered Above Any (eqb n 0x4453) _ _ tt (either-numbered Above Any (eqb n 0x4344) _ _ tt (either-numbered Above Any (eqb n 0x4B49) _ _ tt (either-numbered Above Any (eqb n 0x4558) _ _ tt (either-numbered Above Any (eqb n 0x4152) _ _ tt refl)))))
 
   descriptor-numbered : (d : List ℕ) → Numbered Above Any (descriptorCheck d)
   unfolding descriptorCheck
@@ -384,7 +252,9 @@ module _ (sheet : List ℕ) where
   contents-numbered at p LM = tt
   contents-numbered at p DS = descriptor-numbered (descriptorAt sheet at)
   contents-numbered at p CD = tt
-  contents-numbered at p KI = asked-numbered Above Any _ 25 _ refl (asked-numbered Above Any _ 25 _ refl (last-numbered Above _ 25 refl))
+  contents-numbered at p KI = asked-numbered Above Any _ 25 _ refl (asked-numbered Above Any _ 25 _ refl (asked-numbered Above Any _ 25 _ refl (last-numbered Above _ 25 refl)))
+  contents-numbered at p EX =
+      asked-numbered Above Any _ 33 _ refl (asked-numbered Above Any _ 33 _ refl (asked-numbered Above Any _ 33 _ refl (asked-numbered Above Any _ 33 _ refl (asked-numbered Above Any _ 33 _ refl (last-numbered Above _ 33 refl)))))
   contents-numbered at p AR = asked-numbered Above Any _ 27 _ refl (last-numbered Above _ 31 refl)
 
   record-numbered : (at : ℕ) (p : Reading) → Numbered Above Any (recordCheck sheet at p)

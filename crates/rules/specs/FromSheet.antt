@@ -9,7 +9,7 @@ use Rattle.rules.specs.Check.{Check, passed, refused, _≤ⁿ_, _<ⁿ_, 
 use Rattle.rules.specs.Fetch.{u32}
 use Rattle.rules.specs.Questions.{Method, method}
 use Rattle.rules.specs.Step.{Decider, machineBy}
-use Rattle.rules.specs.Sheet.{bodyAt, recordEnd, poolIndex, poolTag, isWide, unread, sheetCheck, poolStart, poolEnd, loadedState}
+use Rattle.rules.specs.Sheet.{bodyAt, recordEnd, poolIndex, poolTag, isWide, unread, sheetCheck, poolStart, handlersLength, loadedState}
 use Rattle.rules.specs.PlainWalk.{Stage, PlainWalk}
 
 -- how long the lent slices are
@@ -46,12 +46,17 @@ throughRecords by zero sheet at end i d = d
 throughRecords by (suc n) sheet at end i d = cond (end ≤ⁿ at) d (throughRecords by n sheet (recordEnd sheet at) end i (by sheet at i d))
 
 abbrev pub inPool : (List ℕ → ℕ → ℕ → ℕ → ℕ) → List ℕ → Reading → ℕ → ℕ
-inPool by sheet p i = throughRecords by (poolEnd p - poolStart p) sheet (poolStart p) (poolEnd p) i 0
+inPool by sheet p i = throughRecords by (p .handlers - poolStart p) sheet (poolStart p) (p .handlers) i 0
 
 -- ---- the method, its state and stage 0: offset 0, depth 0, the arguments, then zeros
 
 abbrev pub sheetMethod : List ℕ → Reading → Lengths → Method
-sheetMethod sheet p n = method (take (p .«code_length») (drop (p .code) sheet)) (placesBy (n .kinds) (inPool kindBy sheet p)) (placesBy (n .words) (inPool wordBy sheet p))
+sheetMethod sheet p n =
+    method
+    (take (p .«code_length») (drop (p .code) sheet))
+    (placesBy (n .kinds) (inPool kindBy sheet p))
+    (placesBy (n .words) (inPool wordBy sheet p))
+    (take (handlersLength p) (drop (p .handlers) sheet))
 
 abbrev pub argumentOrZero : List ℕ → Reading → ℕ → ℕ
 argumentOrZero sheet p i = cond (i <ⁿ p .«argument_count») (u32 sheet (p .arguments + 4 * i)) 0

@@ -4,6 +4,7 @@ pub mod Instructions
 pub mod OpcodePage
 pub mod Fetch
 pub mod Questions
+pub mod Handlers
 pub mod Descriptor
 pub mod Returns
 pub mod Step

@@ -11,7 +11,7 @@ use Rattle.rules.specs.Check.{Check, passed, refused, _else_, _≤ⁿ_}
 use Rattle.rules.specs.Fetch.{u8}
 use Rattle.rules.specs.Questions.{Method, method}
 use Rattle.rules.specs.Step.{Decider, Machine}
-use Rattle.rules.specs.Sheet.{AfterLoad, loadOf, codeOf}
+use Rattle.rules.specs.Sheet.{AfterLoad, loadOf, codeOf, handlersOf}
 use Rattle.rules.specs.PlainWalk.{PlainWalk, Press, forward, back, plainAnswers}
 use Rattle.rules.specs.Walk.{Walked, walkOf, Demand3}
 use Rattle.rules.specs.FromSheet.{Lengths, plainWalkOf}
@@ -65,9 +65,9 @@ replayOf x bytes s slots log answers = replayBy x bytes s slots log answers (ans
 
 -- ---- demand 3 of what it leaves
 
--- the method that a load leaves: the part of the sheet that is its code, and the pool that it filled
+-- the method that a load leaves: the parts of the sheet that are its code and its handlers, and the pool that it filled
 abbrev pub loadedMethod : List ℕ → AfterLoad → Method
-loadedMethod sheet m = method (codeOf sheet (m .loaded)) (m .kinds) (m .words)
+loadedMethod sheet m = method (codeOf sheet (m .loaded)) (m .kinds) (m .words) (handlersOf sheet (m .loaded))
 
 -- a load of a sheet was accepted, whatever the lent memory held then, and what it handed back and filled is what is lent now
 pub record LeftBy (sheet : List ℕ) (l : Method) (s : State) (slots : List ℕ) : Type 0 where

@@ -8,14 +8,15 @@ use Rattle.rules.specs.declared.State.{State}
 use Rattle.rules.specs.Check.{Check, _else_, _>>_, _≤ⁿ_, _<ⁿ_, _=ⁿ_}
 use Rattle.rules.specs.Fetch.{Instruction}
 
--- a method as it is lent, and never written: its code, and the constant pool as kinds and words
+-- a method as it is lent, and never written: its code, the constant pool as kinds and words, and its handlers (Handlers)
 pub record Method : Type 0 where
   pub code : List ℕ
   pub kinds : List ℕ
   pub words : List ℕ
+  pub handlers : List ℕ
 
-abbrev pub method : List ℕ → List ℕ → List ℕ → Method
-method code kinds words = record { code = code; kinds = kinds; words = words }
+abbrev pub method : List ℕ → List ℕ → List ℕ → List ℕ → Method
+method code kinds words handlers = record { code = code; kinds = kinds; words = words; handlers = handlers }
 
 -- how many places a frame has (RULES, 'Terms'): all locals and stack places
 abbrev pub frameSize : State → ℕ

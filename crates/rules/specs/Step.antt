@@ -2,6 +2,7 @@
 use Prim.Native.Nat.{ℕ, zero, suc, _+_, _-_}
 use mathlib.Core.Bool.{cond}
 use mathlib.Core.List.{List, [], _∷_, _++_}
+use mathlib.Core.Option.{Option, none, some}
 use lib.IntN.{ℤ, pos, negsuc, _+ℤ_}
 use lib.ListN.{length, getD, take, drop, replicate}
 use lib.Seq.{paste}
@@ -11,11 +12,12 @@ use Rattle.rules.specs.declared.State.{State}
 use Rattle.rules.specs.declared.Update.{Update}
 use Rattle.rules.specs.declared.Decision.{Decision}
 use Rattle.rules.specs.declared.Decision.the-variants.{Ordinary, Return, Throw, Refused}
-use Rattle.rules.specs.Check.{Check, passed, refused, _else_, _>>=_, _>>_, _<ⁿ_, _=ⁿ_}
+use Rattle.rules.specs.Check.{Check, passed, refused, _else_, _>>=_, _>>_, _≤ⁿ_, _<ⁿ_, _=ⁿ_}
 use Rattle.rules.specs.Forms.{Result, pushes, stores, divides, branches, returns, Source, stack, local, pool}
 use Rattle.rules.specs.Fetch.{Instruction, fetched}
 use Rattle.rules.specs.Returns.{returned}
 use Rattle.rules.specs.Questions.{Method, method, frameSize, popped, pushed, frameCheck, needsCheck}
+use Rattle.rules.specs.Handlers.{handlerAt}
 
 -- ---- the words that an instruction works on
 
@@ -85,11 +87,27 @@ returnOf t v = do
   r ← returned t v
   passed (Return r)
 
--- all that it pushes, from its first place on the stack on; or the local stored. A return or a zero divisor ends before question 10
+-- an exception that is caught (JVMS 2.10, and 6.5 of athrow): the stack is emptied and the exception pushed, a reference with the word 1, with question 7; then
+-- question 10 of the handler
+abbrev pub caughtAt : List ℕ → State → ℕ → Check Decision
+caughtAt code s handler = do
+  1 ≤ⁿ s .«max_stack» else 8
+  pc ← inside code (pos handler)
+  passed (Ordinary (update pc 1 (s .«max_locals») 1 (1 ∷ [])))
+
+-- an ArithmeticException that is thrown at an offset: caught by the method's handlers, or the outcome
+abbrev pub thrownTo : List ℕ → State → Option ℕ → Check Decision
+thrownTo code s none = passed Throw
+thrownTo code s (some handler) = caughtAt code s handler
+
+unfoldable pub thrownAt : Method → State → ℕ → Check Decision
+thrownAt l s pc = thrownTo (l .code) s (handlerAt (l .kinds) (l .words) (l .handlers) pc)
+
+-- all that it pushes, from its first place on the stack on; or the local stored. A zero divisor throws at the opcode's offset. A return ends before question 10
 abbrev pub outcome : Method → State → Instruction → Result → Check Decision
 outcome l s i (pushes ws) = ordinary l s i (following s i) (base s i) (pushed i) ws
 outcome l s i (stores ws) = ordinary l s i (following s i) (i .operand .index) (placesOf (i .rule .locals)) ws
-outcome l s i (divides by ws) = cond (by =ⁿ 0) (passed Throw) (ordinary l s i (following s i) (base s i) (pushed i) ws)
+outcome l s i (divides by ws) = cond (by =ⁿ 0) (thrownAt l s (s .pc)) (ordinary l s i (following s i) (base s i) (pushed i) ws)
 outcome l s i (branches t z) = ordinary l s i (cond t (target s z) (following s i)) 0 0 []
 outcome l s i (returns v) = returnOf (s .«return_type») v
 
@@ -138,8 +156,8 @@ coreRules l n s words = record { decision = decideFrame l n s words; scratch = 0
 abbrev pub coreMachine : Method → Machine
 coreMachine l = machineBy coreRules l
 
-abbrev pub machine : List ℕ → List ℕ → List ℕ → Machine
-machine code kinds words = coreMachine (method code kinds words)
+abbrev pub machine : List ℕ → List ℕ → List ℕ → List ℕ → Machine
+machine code kinds words handlers = coreMachine (method code kinds words handlers)
 
 -- ---- what a step leaves
 

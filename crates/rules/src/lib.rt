@@ -72,11 +72,13 @@ pub enum Mark {
     DS,
     CD,
     KI,
+    EX,
     AR,
 }
 
 // What has been read of a sheet: the number of the last record's mark, the method's sizes, its parameters' places and its return type, both 0 without a descriptor,
-// where its code begins in the sheet and how long it is, the highest pool index used, and where the argument words begin and how many there are.
+// where its code begins in the sheet and how long it is, the highest pool index used, where the handlers begin, which end at the AR record, and where the argument
+// words begin and how many there are.
 pub struct Reading {
     pub last: u32,
     pub max_stack: u16,
@@ -86,6 +88,7 @@ pub struct Reading {
     pub code: usize,
     pub code_length: usize,
     pub used: u32,
+    pub handlers: usize,
     pub arguments: usize,
     pub argument_count: usize,
 }
@@ -96,13 +99,15 @@ pub enum Load {
     Refused(u32),
 }
 
-// What a load gives in every case: its answer, the state, and where the code lies in the sheet. A refused one gives a state of zeros and the empty part at the
-// sheet's start.
+// What a load gives in every case: its answer, the state, and where the code and the handlers lie in the sheet. A refused one gives a state of zeros and twice the
+// empty part at the sheet's start.
 pub struct Loaded {
     pub answer: Load,
     pub state: State,
     pub code: usize,
     pub code_length: usize,
+    pub handlers: usize,
+    pub handlers_length: usize,
 }
 
 // What an answer says over the C boundary: a number, and the value that goes with it as two words, 0 where there is none.

@@ -24,6 +24,7 @@ fn unread() -> Reading
         code: 0,
         code_length: 0,
         used: 0,
+        handlers: 0,
         arguments: 0,
         argument_count: 0,
     }

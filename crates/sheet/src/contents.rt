@@ -6,12 +6,14 @@ use crate::marks::AFTER_KI;
 use crate::marks::AFTER_LM;
 use crate::marks::WIDE_CONSTANT;
 use crate::marks::tag_suits;
+use crate::marks::word_suits;
 use crate::records::Record;
 use crate::records::body_length;
 use descriptor::Descriptor;
 use descriptor::read_descriptor;
 use operands::read_code_u8;
 use operands::read_code_u16;
+use operands::read_code_u32;
 use rules::Checked;
 use rules::Reading;
 ghost use mathlib.Core.Path.{_≡_};
@@ -65,11 +67,12 @@ pub(crate) fn read_code(sheet: &[u8], at: usize, p: Reading) -> Record
     requires { ⌜ at ≤ length (now sheet) ⌝ }
     ensures { λ r. ⌜ r ≡ recordAnswer (contentsRead (now (sheet .entry)) at p CD) ⌝ }
 {
-    let size = body_length(sheet, at);
+    let size = body_length(sheet, at) as usize;
     let mut q = p;
     q.last = AFTER_CD;
     q.code = at + 4;
-    q.code_length = size as usize;
+    q.code_length = size;
+    q.handlers = at + 4 + size;
     Record::Read(q)
 }
 
@@ -86,7 +89,7 @@ fn last_index(sheet: &[u8], at: usize) -> u32
     }
 }
 
-// KI: its tag, and its indices above all used.
+// KI: its tag, the word of a class, and its indices above all used.
 fn check_constant(sheet: &[u8], at: usize, p: Reading) -> Checked
     requires { ⌜ at ≤ length (now sheet) ⌝ }
     ensures { λ r. ⌜ r ≡ checked (contentsCheck (now (sheet .entry)) at p KI) ⌝ }
@@ -95,6 +98,9 @@ fn check_constant(sheet: &[u8], at: usize, p: Reading) -> Checked
     let tag = read_code_u8(sheet, body + 2);
     let size = body_length(sheet, at);
     if !tag_suits(tag, size) {
+        return Checked::Refused(25);
+    }
+    if !word_suits(tag, read_code_u32(sheet, body + 3)) {
         return Checked::Refused(25);
     }
     let index = read_code_u16(sheet, body) as u32;
@@ -119,6 +125,7 @@ pub(crate) fn read_constant(sheet: &[u8], at: usize, p: Reading) -> Record
             let mut q = p;
             q.last = AFTER_KI;
             q.used = last_index(sheet, at);
+            q.handlers = at + 4 + body_length(sheet, at) as usize;
             Record::Read(q)
         }
     }

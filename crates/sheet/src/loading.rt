@@ -9,8 +9,9 @@ use rules::Loaded;
 use rules::Reading;
 use rules::State;
 ghost use mathlib.Core.Path.{_≡_};
+ghost use Prim.Native.Nat.{_+_, _≤_};
 ghost use Rattle.rules.specs.Check.{passed};
-ghost use Rattle.rules.specs.Sheet.{sheetCheck, loadedState, acceptedLoad, refusedLoad, loadOf, codeOf};
+ghost use Rattle.rules.specs.Sheet.{sheetCheck, loadedState, acceptedLoad, refusedLoad, loadOf, partOf, codeOf, handlersOf};
 ghost use Rattle.sheet.specs.Filled.{afterLoad};
 
 // The state of a method that is loaded. Every first state is made here.
@@ -27,7 +28,7 @@ pub fn loaded_state(max_stack: u16, max_locals: u16, return_type: u32) -> State
     }
 }
 
-// What a refused load gives: its number, a state of zeros and the empty part at the sheet's start.
+// What a refused load gives: its number, a state of zeros and twice the empty part at the sheet's start.
 fn refused_load(number: u32) -> Loaded
     ensures { λ r. ⌜ r ≡ refusedLoad number ⌝ }
 {
@@ -36,11 +37,14 @@ fn refused_load(number: u32) -> Loaded
         state: loaded_state(0, 0, 0),
         code: 0,
         code_length: 0,
+        handlers: 0,
+        handlers_length: 0,
     }
 }
 
 // What an accepted load gives.
 fn accepted_load(p: Reading) -> Loaded
+    requires { ⌜ p .handlers + 4 ≤ p .arguments ⌝ }
     ensures { λ r. ⌜ r ≡ acceptedLoad p ⌝ }
 {
     Loaded {
@@ -48,11 +52,13 @@ fn accepted_load(p: Reading) -> Loaded
         state: loaded_state(p.max_stack, p.max_locals, p.return_type),
         code: p.code,
         code_length: p.code_length,
+        handlers: p.handlers,
+        handlers_length: p.arguments - 4 - p.handlers,
     }
 }
 
-// The memory checked, and then filled.
-fn load_read(
+// The load of a sheet that was read: the memory checked, and then filled.
+pub fn load_read(
     sheet: &[u8],
     slots: &mut [u32],
     kinds: &mut [u8],
@@ -65,7 +71,7 @@ fn load_read(
     if !is_enough(p, slots, kinds, words) {
         return refused_load(26);
     }
-    fill_pool(sheet, p.code + p.code_length, p.arguments - 4, kinds, words);
+    fill_pool(sheet, p.code + p.code_length, p.handlers, kinds, words);
     fill_slots(sheet, p, slots);
     accepted_load(p)
 }
@@ -81,12 +87,10 @@ pub fn load(sheet: &[u8], slots: &mut [u32], kinds: &mut [u8], words: &mut [u32]
     }
 }
 
-// The code that a load found, as the very part of the sheet that holds it; of a load of another sheet that points past this one, the empty part at its start.
-pub fn code_of(sheet: &[u8], loaded: Loaded) -> &[u8]
-    ensures { λ r. ⌜ now r ≡ codeOf (now (sheet .entry)) loaded ⌝ }
+// The part of a sheet with so many bytes from an offset on; where it would reach past the end, the empty part at the sheet's start.
+fn part_of(sheet: &[u8], start: usize, count: usize) -> &[u8]
+    ensures { λ r. ⌜ now r ≡ partOf (now (sheet .entry)) start count ⌝ }
 {
-    let start = loaded.code;
-    let count = loaded.code_length;
     if sheet.len() < start {
         return &sheet[..0];
     }
@@ -95,4 +99,18 @@ pub fn code_of(sheet: &[u8], loaded: Loaded) -> &[u8]
     }
     let end = start + count;
     &sheet[start..end]
+}
+
+// The code that a load found, as the very part of the sheet that holds it; of a load of another sheet that points past this one, the empty part.
+pub fn code_of(sheet: &[u8], loaded: Loaded) -> &[u8]
+    ensures { λ r. ⌜ now r ≡ codeOf (now (sheet .entry)) loaded ⌝ }
+{
+    part_of(sheet, loaded.code, loaded.code_length)
+}
+
+// The handlers that a load found, in the same way.
+pub fn handlers_of(sheet: &[u8], loaded: Loaded) -> &[u8]
+    ensures { λ r. ⌜ now r ≡ handlersOf (now (sheet .entry)) loaded ⌝ }
+{
+    part_of(sheet, loaded.handlers, loaded.handlers_length)
 }

@@ -1,7 +1,7 @@
 // The marks of a sheet's records: which they are, which may follow which, and the lengths that they allow.
 use rules::Mark;
 ghost use mathlib.Core.Path.{_≡_};
-ghost use Rattle.rules.specs.Sheet.{tagSuits, knownMark, follows, rightLength};
+ghost use Rattle.rules.specs.Sheet.{tagSuits, wordSuits, knownMark, follows, rightLength};
 ghost use Rattle.sheet.specs.Records.{markAnswer};
 
 // The marks in ASCII.
@@ -12,6 +12,8 @@ const DS: u16 = 0x4453;
 const CD: u16 = 0x4344;
 
 const KI: u16 = 0x4B49;
+
+const EX: u16 = 0x4558;
 
 const AR: u16 = 0x4152;
 
@@ -26,7 +28,9 @@ pub(crate) const AFTER_CD: u32 = 3;
 
 pub(crate) const AFTER_KI: u32 = 4;
 
-pub(crate) const AFTER_AR: u32 = 5;
+pub(crate) const AFTER_EX: u32 = 5;
+
+pub(crate) const AFTER_AR: u32 = 6;
 
 // The body of a KI record with a value of one word, and of two.
 const NARROW_CONSTANT: u16 = 7;
@@ -41,6 +45,8 @@ const CONSTANT_FLOAT: u8 = 4;
 const CONSTANT_LONG: u8 = 5;
 
 const CONSTANT_DOUBLE: u8 = 6;
+
+pub(crate) const CONSTANT_CLASS: u8 = 7;
 
 // A mark, or the number of the refusal of one that is not known.
 pub(crate) enum Known {
@@ -64,6 +70,9 @@ pub(crate) fn known_mark(bytes: u16) -> Known
     if bytes == KI {
         return Known::Mark(Mark::KI);
     }
+    if bytes == EX {
+        return Known::Mark(Mark::EX);
+    }
     if bytes == AR {
         return Known::Mark(Mark::AR);
     }
@@ -79,7 +88,8 @@ pub(crate) fn may_follow(mark: Mark, last: u32) -> bool
         Mark::DS => last == AFTER_LM,
         Mark::CD => last == AFTER_LM || last == AFTER_DS,
         Mark::KI => last == AFTER_CD || last == AFTER_KI,
-        Mark::AR => last == AFTER_CD || last == AFTER_KI,
+        Mark::EX => last == AFTER_CD || last == AFTER_KI || last == AFTER_EX,
+        Mark::AR => last == AFTER_CD || last == AFTER_KI || last == AFTER_EX,
     }
 }
 
@@ -92,6 +102,7 @@ pub(crate) fn right_length(mark: Mark, size: u16) -> bool
         Mark::DS => true,
         Mark::CD => 1 <= size,
         Mark::KI => size == NARROW_CONSTANT || size == WIDE_CONSTANT,
+        Mark::EX => true,
         Mark::AR => size % 4 == 0,
     }
 }
@@ -101,7 +112,17 @@ pub(crate) fn tag_suits(tag: u8, size: u16) -> bool
     ensures { λ r. ⌜ r ≡ tagSuits tag size ⌝ }
 {
     if size == NARROW_CONSTANT {
-        return tag == CONSTANT_INTEGER || tag == CONSTANT_FLOAT;
+        return tag == CONSTANT_INTEGER || tag == CONSTANT_FLOAT || tag == CONSTANT_CLASS;
     }
     tag == CONSTANT_LONG || tag == CONSTANT_DOUBLE
+}
+
+// Whether a word suits a tag: that of a class is 0 or 1.
+pub(crate) fn word_suits(tag: u8, word: u32) -> bool
+    ensures { λ r. ⌜ r ≡ wordSuits tag word ⌝ }
+{
+    if tag != CONSTANT_CLASS {
+        return true;
+    }
+    word <= 1
 }

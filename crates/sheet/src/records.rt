@@ -4,6 +4,7 @@ use crate::contents::read_code;
 use crate::contents::read_constant;
 use crate::contents::read_sizes;
 use crate::contents::read_types;
+use crate::handler_records::read_handler;
 use crate::marks::Known;
 use crate::marks::known_mark;
 use crate::marks::may_follow;
@@ -12,7 +13,7 @@ use operands::read_code_u16;
 use rules::Mark;
 use rules::Reading;
 ghost use mathlib.Core.Path.{_≡_};
-ghost use Prim.Native.Nat.{_≤_};
+ghost use Prim.Native.Nat.{_+_, _≤_};
 ghost use lib.ListN.{length};
 ghost use Rattle.rules.specs.Sheet.{bodyLength, recordEnd, markedCheck, recordCheck};
 ghost use Rattle.sheet.specs.Records.{recordAnswer};
@@ -34,6 +35,7 @@ pub(crate) fn body_length(sheet: &[u8], at: usize) -> u16
 // A record whose mark is known: its place, its length and its contents.
 fn check_marked(sheet: &[u8], at: usize, p: Reading, mark: Mark) -> Record
     requires { ⌜ recordEnd (now sheet) at ≤ length (now sheet) ⌝ }
+    requires { ⌜ (p .code + p .«code_length» ≤ p .handlers) × (p .handlers ≤ at) ⌝ }
     ensures { λ r. ⌜ r ≡ recordAnswer (markedCheck (now (sheet .entry)) at p mark) ⌝ }
 {
     if !may_follow(mark, p.last) {
@@ -47,6 +49,7 @@ fn check_marked(sheet: &[u8], at: usize, p: Reading, mark: Mark) -> Record
         Mark::DS => read_types(sheet, at, p),
         Mark::CD => read_code(sheet, at, p),
         Mark::KI => read_constant(sheet, at, p),
+        Mark::EX => read_handler(sheet, at, p),
         Mark::AR => read_arguments(sheet, at, p),
     }
 }
@@ -54,6 +57,7 @@ fn check_marked(sheet: &[u8], at: usize, p: Reading, mark: Mark) -> Record
 // The record at an offset, after what has been read before it.
 pub(crate) fn check_record(sheet: &[u8], at: usize, p: Reading) -> Record
     requires { ⌜ at ≤ length (now sheet) ⌝ }
+    requires { ⌜ (p .code + p .«code_length» ≤ p .handlers) × (p .handlers ≤ at) ⌝ }
     ensures { λ r. ⌜ r ≡ recordAnswer (recordCheck (now (sheet .entry)) at p) ⌝ }
 {
     if sheet.len() < at + 4 {

@@ -12,11 +12,12 @@ use Rattle.rules.specs.declared.Pressed.the-variants.{Granted, Return, Throw, R
 use Rattle.rules.specs.declared.Reading.{Reading}
 use Rattle.rules.specs.declared.Load.{Load}
 use Rattle.rules.specs.declared.Load.the-variants as Load
-use Rattle.rules.specs.Check.{Check, passed, refused, _else_, _>>_, _≤ⁿ_}
+use Rattle.rules.specs.declared.Loaded.{Loaded}
+use Rattle.rules.specs.Check.{Check, passed, refused, _else_, _>>=_, _>>_, _≤ⁿ_, _<ⁿ_}
 use Rattle.rules.specs.Questions.{Method}
 use Rattle.rules.specs.Step.{Machine, Stepped, stepOf}
 use Rattle.rules.specs.Run.{Ran, runOf}
-use Rattle.rules.specs.Sheet.{sheetCheck, AfterLoad, loadOf}
+use Rattle.rules.specs.Sheet.{sheetCheck, handlersLength, AfterLoad, loadOf}
 use Rattle.rules.specs.History.{AfterPress, pressedBy, forwardOf, backOf}
 use Rattle.rules.specs.Answers.{valueAnswer, decisionAnswer, endAnswer, pressedAnswer, loadAnswer}
 use Rattle.rules.specs.Presses.{answersWords, answersCheck, Replayed, replayOf}
@@ -147,7 +148,11 @@ pub record LoadCalled : Type 0 where
   pub state : List ℕ
   pub answer : List ℕ
 
--- an accepted load writes the state, and where the code begins and how long it is
+-- where the code begins and how long it is, and the same of the handlers
+abbrev pub partsOf : Loaded → List ℕ
+partsOf x = x .code ∷ x .«code_length» ∷ x .handlers ∷ x .«handlers_length» ∷ []
+
+-- an accepted load writes the state and the parts
 abbrev pub loadBy : List ℕ → List ℕ → AfterLoad → Load → LoadCalled
 loadBy state answer m Load.Accepted =
     record {
@@ -156,20 +161,23 @@ loadBy state answer m Load.Accepted =
       kinds = m .kinds;
       words = m .words;
       state = withState state (m .loaded .state);
-      answer = paste answer 0 (m .loaded .code ∷ m .loaded .«code_length» ∷ []) 2;
+      answer = paste answer 0 (partsOf (m .loaded)) 4;
     }
 loadBy state answer m (Load.Refused k) =
     record { number = loadAnswer (Load.Refused k) .number; slots = m .slots; kinds = m .kinds; words = m .words; state = state; answer = answer }
 
--- too few state or answer words belong to question 26: the sheet's own numbers come first
-abbrev pub shortNumber : Check Reading → ℕ
-shortNumber (passed p) = 26
-shortNumber (refused n) = n
+-- question 26 of the state and answer words, after the sheet's own: are there enough, and is the length of the handlers, which has no limit, a word?
+unfoldable pub wordsCheck : List ℕ → List ℕ → Reading → Check (Unit {0})
+wordsCheck state answer p = do
+  stateSize ≤ⁿ length state else 26
+  4 ≤ⁿ length answer else 26
+  handlersLength p <ⁿ 2 ^ 32 else 26
 
 abbrev pub loadFor : List ℕ → List ℕ → List ℕ → List ℕ → List ℕ → List ℕ → Check (Unit {0}) → LoadCalled
 loadFor sheet slots kinds words state answer (passed t) = let m = loadOf sheet slots kinds words in loadBy state answer m (m .loaded .answer)
-loadFor sheet slots kinds words state answer (refused n) =
-    record { number = shortNumber (sheetCheck sheet); slots = slots; kinds = kinds; words = words; state = state; answer = answer }
+loadFor sheet slots kinds words state answer (refused n) = record { number = n; slots = slots; kinds = kinds; words = words; state = state; answer = answer }
 
 unfoldable pub loadCall : List ℕ → List ℕ → List ℕ → List ℕ → List ℕ → List ℕ → LoadCalled
-loadCall sheet slots kinds words state answer = loadFor sheet slots kinds words state answer (lengthsCheck state answer 4)
+loadCall sheet slots kinds words state answer = loadFor sheet slots kinds words state answer (do
+  p ← sheetCheck sheet
+  wordsCheck state answer p)

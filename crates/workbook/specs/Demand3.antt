@@ -1,6 +1,6 @@
 -- DEMAND 3 at the boundary: of what workbook_load left, of a list of single calls of workbook_forward and workbook_back, of workbook_run, and of
 -- workbook_presses. Assumes nothing.
-use Prim.Native.Nat.{ℕ, _*_, _^_, _<_, _≤_}
+use Prim.Native.Nat.{ℕ, _+_, _*_, _^_, _<_, _≤_}
 use mathlib.Core.Path.{_≡_}
 use mathlib.Core.List.{List, [], _∷_, _++_, map}
 use lib.ListN.{length, getD, take, drop}
@@ -19,13 +19,13 @@ use Rattle.workbook.specs.Calls.{Called, answerAfter, forwardCall, backC
 
 -- ---- what a load left
 
--- the part of the sheet at answer words 0 and 1: where the code begins, and how long it is
-abbrev pub partAt : List ℕ → List ℕ → List ℕ
-partAt sheet answer = take (getD answer 1 0) (drop (getD answer 0 0) sheet)
+-- the part of the sheet at two answer words, from index i on: where it begins, and how long it is
+abbrev pub partAt : List ℕ → List ℕ → ℕ → List ℕ
+partAt sheet answer i = take (getD answer (i + 1) 0) (drop (getD answer i 0) sheet)
 
 -- the method that a host lends after a load
 abbrev pub methodLeft : List ℕ → LoadCalled → Method
-methodLeft sheet c = method (partAt sheet (c .answer)) (c .kinds) (c .words)
+methodLeft sheet c = method (partAt sheet (c .answer) 0) (c .kinds) (c .words) (partAt sheet (c .answer) 2)
 
 -- ---- a list of single calls, each on the words that the last one left
 

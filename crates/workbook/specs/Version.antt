@@ -3,4 +3,4 @@ use Prim.Native.Nat.{ℕ}
 
 -- the number of the last request that has landed (docs/changes), 0 before the first
 abbrev pub version : ℕ
-version = 2
+version = 3

@@ -47,14 +47,15 @@ pub extern "C" fn workbook_presses(
     code: &[u8],
     kinds: &[u8],
     words: &[u32],
+    handlers: &[u8],
     slots: &mut [u32],
     log: &mut [u32],
     state: &mut [u32],
     bytes: &[u8],
     answers: &mut [u32],
 ) -> u32
-    ensures { λ r. ⌜ record { number = r; slots = now (slots .exit); log = now (log .exit); state = now (state .exit); answer = now (answers .exit) } ≡ pressesCall (machine (now (code .entry)) (now (kinds .entry)) (now (words .entry))) (now (slots .entry)) (now (log .entry)) (now (state .entry)) (now (bytes .entry)) (now (answers .entry)) ⌝ }
-    ensures { λ r. ⌜ FromAnyLoadCall (method (now (code .entry)) (now (kinds .entry)) (now (words .entry))) (now (slots .entry)) (now (log .entry)) (now (state .entry)) (now (bytes .entry)) (now (answers .entry)) (record { number = r; slots = now (slots .exit); log = now (log .exit); state = now (state .exit); answer = now (answers .exit) }) ⌝ }
+    ensures { λ r. ⌜ record { number = r; slots = now (slots .exit); log = now (log .exit); state = now (state .exit); answer = now (answers .exit) } ≡ pressesCall (machine (now (code .entry)) (now (kinds .entry)) (now (words .entry)) (now (handlers .entry))) (now (slots .entry)) (now (log .entry)) (now (state .entry)) (now (bytes .entry)) (now (answers .entry)) ⌝ }
+    ensures { λ r. ⌜ FromAnyLoadCall (method (now (code .entry)) (now (kinds .entry)) (now (words .entry)) (now (handlers .entry))) (now (slots .entry)) (now (log .entry)) (now (state .entry)) (now (bytes .entry)) (now (answers .entry)) (record { number = r; slots = now (slots .exit); log = now (log .exit); state = now (state .exit); answer = now (answers .exit) }) ⌝ }
 {
     if answers.len() / 3 < bytes.len() {
         return 1;
@@ -67,7 +68,7 @@ pub extern "C" fn workbook_presses(
         return 0;
     }
     let s = read_state(state);
-    let replay = presses(code, kinds, words, slots, log, s, bytes, answers);
+    let replay = presses(code, kinds, words, handlers, slots, log, s, bytes, answers);
     write_state(state, replay.state);
     0
 }

@@ -18,12 +18,13 @@ pub extern "C" fn workbook_run(
     code: &[u8],
     kinds: &[u8],
     words: &[u32],
+    handlers: &[u8],
     slots: &mut [u32],
     state: &mut [u32],
     answer: &mut [u32],
     budget: u64,
 ) -> u32
-    ensures { λ r. ⌜ record { number = r; slots = now (slots .exit); log = []; state = now (state .exit); answer = now (answer .exit) } ≡ runCall (machine (now (code .entry)) (now (kinds .entry)) (now (words .entry))) (now (slots .entry)) (now (state .entry)) (now (answer .entry)) budget ⌝ }
+    ensures { λ r. ⌜ record { number = r; slots = now (slots .exit); log = []; state = now (state .exit); answer = now (answer .exit) } ≡ runCall (machine (now (code .entry)) (now (kinds .entry)) (now (words .entry)) (now (handlers .entry))) (now (slots .entry)) (now (state .entry)) (now (answer .entry)) budget ⌝ }
 {
     if !are_lent(state, answer, ANSWER_WORDS) {
         return 1;
@@ -32,7 +33,15 @@ pub extern "C" fn workbook_run(
         write_steps(answer, 0, 0, 0);
         return 1;
     }
-    let ran = run(code, kinds, words, slots, read_state(state), budget);
+    let ran = run(
+        code,
+        kinds,
+        words,
+        handlers,
+        slots,
+        read_state(state),
+        budget,
+    );
     let ended = ran.end;
     let end = end_answer(ended);
     write_state(state, ran.state);

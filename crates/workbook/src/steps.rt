@@ -10,8 +10,9 @@ use history::back;
 use history::forward;
 use history::pressed_by;
 use interpreter::step;
+ghost use Prim.Native.Nat.{ℕ};
 ghost use mathlib.Core.Path.{_≡_};
-ghost use mathlib.Core.List.{[]};
+ghost use mathlib.Core.List.{List, []};
 ghost use Rattle.rules.specs.Questions.{method};
 ghost use Rattle.rules.specs.Step.{machine};
 ghost use Rattle.workbook.specs.Calls.{stepCall, forwardCall, backCall};
@@ -22,11 +23,12 @@ pub extern "C" fn workbook_step(
     code: &[u8],
     kinds: &[u8],
     words: &[u32],
+    handlers: &[u8],
     slots: &mut [u32],
     state: &mut [u32],
     answer: &mut [u32],
 ) -> u32
-    ensures { λ r. ⌜ record { number = r; slots = now (slots .exit); log = []; state = now (state .exit); answer = now (answer .exit) } ≡ stepCall (machine (now (code .entry)) (now (kinds .entry)) (now (words .entry))) (now (slots .entry)) (now (state .entry)) (now (answer .entry)) ⌝ }
+    ensures { λ r. ⌜ record { number = r; slots = now (slots .exit); log = []; state = now (state .exit); answer = now (answer .exit) } ≡ stepCall (machine (now (code .entry)) (now (kinds .entry)) (now (words .entry)) (now (handlers .entry))) (now (slots .entry)) (now (state .entry)) (now (answer .entry)) ⌝ }
 {
     if !are_lent(state, answer, ANSWER_WORDS) {
         return 1;
@@ -34,7 +36,7 @@ pub extern "C" fn workbook_step(
     if !sizes_fit(state) {
         return 1;
     }
-    let stepped = step(code, kinds, words, slots, read_state(state));
+    let stepped = step(code, kinds, words, handlers, slots, read_state(state));
     let decision = stepped.decision;
     let a = pressed_by(decision);
     leave_value(answer, a);
@@ -47,12 +49,13 @@ pub extern "C" fn workbook_forward(
     code: &[u8],
     kinds: &[u8],
     words: &[u32],
+    handlers: &[u8],
     slots: &mut [u32],
     log: &mut [u32],
     state: &mut [u32],
     answer: &mut [u32],
 ) -> u32
-    ensures { λ r. ⌜ record { number = r; slots = now (slots .exit); log = now (log .exit); state = now (state .exit); answer = now (answer .exit) } ≡ forwardCall (machine (now (code .entry)) (now (kinds .entry)) (now (words .entry))) (now (slots .entry)) (now (log .entry)) (now (state .entry)) (now (answer .entry)) ⌝ }
+    ensures { λ r. ⌜ record { number = r; slots = now (slots .exit); log = now (log .exit); state = now (state .exit); answer = now (answer .exit) } ≡ forwardCall (machine (now (code .entry)) (now (kinds .entry)) (now (words .entry)) (now (handlers .entry))) (now (slots .entry)) (now (log .entry)) (now (state .entry)) (now (answer .entry)) ⌝ }
 {
     if !are_lent(state, answer, ANSWER_WORDS) {
         return 1;
@@ -60,13 +63,13 @@ pub extern "C" fn workbook_forward(
     if !sizes_fit(state) {
         return 1;
     }
-    let press = forward(code, kinds, words, slots, log, read_state(state));
+    let press = forward(code, kinds, words, handlers, slots, log, read_state(state));
     let a = press.answer;
     leave_value(answer, a);
     leave(state, press.state, a)
 }
 
-// A press of back. It has no answer words.
+// A press of back, whatever the handlers are. It has no answer words.
 #[no_mangle]
 pub extern "C" fn workbook_back(
     code: &[u8],
@@ -76,7 +79,7 @@ pub extern "C" fn workbook_back(
     log: &[u32],
     state: &mut [u32],
 ) -> u32
-    ensures { λ r. ⌜ record { number = r; slots = now (slots .exit); log = now (log .entry); state = now (state .exit); answer = [] } ≡ backCall (method (now (code .entry)) (now (kinds .entry)) (now (words .entry))) (now (slots .entry)) (now (log .entry)) (now (state .entry)) ⌝ }
+    ensures { λ r. ⌜ ((handlers : List ℕ) → record { number = r; slots = now (slots .exit); log = now (log .entry); state = now (state .exit); answer = [] } ≡ backCall (method (now (code .entry)) (now (kinds .entry)) (now (words .entry)) handlers) (now (slots .entry)) (now (log .entry)) (now (state .entry))) ⌝ }
 {
     if state.len() < STATE_WORDS {
         return 1;

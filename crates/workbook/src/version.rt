@@ -7,5 +7,5 @@ ghost use Rattle.workbook.specs.Version.{version};
 pub extern "C" fn workbook_version() -> u32
     ensures { λ r. ⌜ r ≡ version ⌝ }
 {
-    2
+    3
 }

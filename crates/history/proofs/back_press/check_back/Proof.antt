@@ -25,26 +25,26 @@ enum-told-2 : tie.Need-enum-told-2
 enum-told-2 c = search needs
 
 returns : tie.Need-returns
-returns c =
+returns c = λ handlers.
     let a = c .before .before .before .before .before .before .before .before .args in
-    let l = method (now (a .code)) (now (a .kinds)) (now (a .words)) in
-    c .enum-told2 .given .1 ∙ ap checked (sym (back-frame l (a .s) (now (a .slots)) (now (a .log)) _ (row-refused _ _ (sym (c .enum-told2 .given .1) ∙ c .before .before .check-frame .ensures))))
+    let l = method (now (a .code)) (now (a .kinds)) (now (a .words)) handlers in
+    c .enum-told2 .given .1 ∙ ap checked (sym (back-frame l (a .s) (now (a .slots)) (now (a .log)) _ (row-refused _ _ (sym (c .enum-told2 .given .1) ∙ c .before .before .check-frame .ensures _))))
 
 returns-2 : tie.Need-returns-2
-returns-2 c =
+returns-2 c = λ handlers.
     let a = c .before .before .before .before .before .before .before .before .before .before .args in
-    let l = method (now (a .code)) (now (a .kinds)) (now (a .words)) in
-    let f = row-passed _ (sym (c .before .before .enum-told .given .1) ∙ c .before .before .before .before .check-frame .ensures) in
+    let l = method (now (a .code)) (now (a .kinds)) (now (a .words)) handlers in
+    let f = row-passed _ (sym (c .before .before .enum-told .given .1) ∙ c .before .before .before .before .check-frame .ensures _) in
     rw (back-first l (a .s) (now (a .slots)) (now (a .log)) f (c .if1 .taken))
 
 entries-requires : tie.Need-entries-requires
 entries-requires c κs = search needs
 
 returns-3 : tie.Need-returns-3
-returns-3 c =
+returns-3 c = λ handlers.
     let a = c .before .before .before .before .before .before .before .before .before .before .before .before .before .args in
-    let l = method (now (a .code)) (now (a .kinds)) (now (a .words)) in
-    let f = row-passed _ (sym (c .before .before .before .before .before .enum-told .given .1) ∙ c .before .before .before .before .before .before .before .check-frame .ensures) in
+    let l = method (now (a .code)) (now (a .kinds)) (now (a .words)) handlers in
+    let f = row-passed _ (sym (c .before .before .before .before .before .enum-told .given .1) ∙ c .before .before .before .before .before .before .before .check-frame .ensures _) in
     rw (back-short l (a .s) (now (a .slots)) (now (a .log)) f (omega (arith, c .before .before .before .if1 .left)) (omega (arith, c .if2 .taken, c .before .before .entries .ensures)))
 
 sub-is-sound : tie.Need-sub-is-sound
@@ -57,17 +57,17 @@ is-sound-requires c κs =
     long
 
 returns-4 : tie.Need-returns-4
-returns-4 c =
+returns-4 c = λ handlers.
     let a = c .before .before .before .before .before .before .before .before .before .before .before .before .before .before .before .before .args in
-    let l = method (now (a .code)) (now (a .kinds)) (now (a .words)) in
-    let f = row-passed _ (sym (c .before .before .before .before .before .before .before .before .enum-told .given .1) ∙ c .before .before .before .before .before .before .before .before .before .before .check-frame .ensures) in
+    let l = method (now (a .code)) (now (a .kinds)) (now (a .words)) handlers in
+    let f = row-passed _ (sym (c .before .before .before .before .before .before .before .before .enum-told .given .1) ∙ c .before .before .before .before .before .before .before .before .before .before .check-frame .ensures _) in
     rw (back-entry l (a .s) (now (a .slots)) (now (a .log)) f (omega (arith, c .before .before .before .before .before .before .if1 .left)) (omega (arith, c .before .before .before .if2 .left, c .before .before .before .before .before .entries .ensures)), not-sound _ _ _ _ (sym (c .before .is-sound .ensures) ∙ not-true _ (c .if3 .taken)))
 
 returns-5 : tie.Need-returns-5
-returns-5 c =
+returns-5 c = λ handlers.
     let a = c .before .before .before .before .before .before .before .before .before .before .before .before .before .before .before .before .args in
-    let l = method (now (a .code)) (now (a .kinds)) (now (a .words)) in
-    let f = row-passed _ (sym (c .before .before .before .before .before .before .before .before .enum-told .given .1) ∙ c .before .before .before .before .before .before .before .before .before .before .check-frame .ensures) in
+    let l = method (now (a .code)) (now (a .kinds)) (now (a .words)) handlers in
+    let f = row-passed _ (sym (c .before .before .before .before .before .before .before .before .enum-told .given .1) ∙ c .before .before .before .before .before .before .before .before .before .before .check-frame .ensures _) in
     rw (back-entry l (a .s) (now (a .slots)) (now (a .log)) f (omega (arith, c .before .before .before .before .before .before .if1 .left)) (omega (arith, c .before .before .before .if2 .left, c .before .before .before .before .before .entries .ensures)), is-passed (entryCheck (now (a .code)) (a .s) (now (a .log)) (entryAt (a .s .count - 1))) (sym (c .before .is-sound .ensures) ∙ not-false _ (c .if3 .left)))
 
 pub check-back-spec : {M : Type 1} → statement M

@@ -26,16 +26,16 @@ same-length c = search needs
 
 returns : tie.Need-returns
 returns c =
-    let a = c .before .before .before .before .before .before .before .before .before .before .before .before .args in
-    let l = method (now (a .code)) (now (a .kinds)) (now (a .words)) in
+    let a = c .before .before .before .before .before .before .before .before .before .before .before .before .before .args in
+    let l = method (now (a .code)) (now (a .kinds)) (now (a .words)) (now (a .handlers)) in
     let r = c .before .before .before .before .before .advance in
     rw (c .pressed-by .ensures, c .before .settle .ensures, settled-there l (a .s) (now (a .slots)) _ (r .ensures) (r .result .decision))
     (forward-other l (a .s) (now (a .slots)) (now (a .log)) _ (r .ensures) (settled-other (r .result .state .«return_type») (r .result .decision) (c .before .before .match .keys2)))
 
 grant-requires : tie.Need-grant-requires
 grant-requires c κs =
-    let a = c .before .before .before .before .before .before .before .before .before .before .before .before .before .before .args in
-    let l = method (now (a .code)) (now (a .kinds)) (now (a .words)) in
+    let a = c .before .before .before .before .before .before .before .before .before .before .before .before .before .before .before .args in
+    let l = method (now (a .code)) (now (a .kinds)) (now (a .words)) (now (a .handlers)) in
     let k = legal-there l (a .s) (now (a .slots)) _ (c .before .before .before .before .before .before .before .advance .ensures) _ (ap (settled _) (c .before .before .before .decision .given .1)) in
     (k .few, k .within, k .frame-there .room)
 
@@ -47,8 +47,8 @@ same-length-3 c = search needs
 
 returns-2 : tie.Need-returns-2
 returns-2 c =
-    let a = c .before .before .before .before .before .before .before .before .before .before .before .before .before .before .before .before .before .before .before .args in
-    let l = method (now (a .code)) (now (a .kinds)) (now (a .words)) in
+    let a = c .before .before .before .before .before .before .before .before .before .before .before .before .before .before .before .before .before .before .before .before .args in
+    let l = method (now (a .code)) (now (a .kinds)) (now (a .words)) (now (a .handlers)) in
     c .before .before .before .before .grant .ensures ∙ forward-there l (a .s) (now (a .slots)) (now (a .log)) _ (c .before .before .before .before .before .before .before .before .before .before .before .before .advance .ensures) _ (ap (settled _) (c .before .before .before .before .before .before .before .before .decision .given .1))
 
 pub forward-spec : {M : Type 1} → statement M

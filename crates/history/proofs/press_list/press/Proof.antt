@@ -16,7 +16,7 @@ same-length-2 c = search needs
 
 returns : tie.Need-returns
 unfolding pressOf
-returns c = rw (c .before .before .before .before .before .if1 .taken) (c .before .before .back .ensures)
+returns c = rw (c .before .before .before .before .before .if1 .taken) (c .before .before .back .ensures _)
 
 forward-requires : tie.Need-forward-requires
 forward-requires c κs = search needs
@@ -30,7 +30,7 @@ same-length-4 c = search needs
 returns-2 : tie.Need-returns-2
 unfolding pressOf
 returns-2 c =
-    let a = c .before .before .before .before .before .before .before .before .before .before .before .before .before .args in
+    let a = c .before .before .before .before .before .before .before .before .before .before .before .before .before .before .args in
     rw (forward-byte (a .byte) (c .before .before .before .before .before .before .before .if1 .left)) (c .before .before .before .before .forward .ensures)
 
 pub press-spec : {M : Type 1} → statement M

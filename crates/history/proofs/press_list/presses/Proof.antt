@@ -10,8 +10,8 @@ use Rattle.history.proofs.press_list.presses.Tie as tie
 
 returns : tie.Need-returns
 returns c =
-    let a = c .before .before .before .before .before .before .before .before .args in
-    let l = method (now (a .code)) (now (a .kinds)) (now (a .words)) in
+    let a = c .before .before .before .before .before .before .before .before .before .args in
+    let l = method (now (a .code)) (now (a .kinds)) (now (a .words)) (now (a .handlers)) in
     too-short l (now (a .bytes)) (a .s) (now (a .slots)) (now (a .log)) (now (a .answers)) _ (omega (arith, c .if1 .taken)) refl
 
 make-presses-requires : tie.Need-make-presses-requires
@@ -28,8 +28,8 @@ same-length-3 c = search needs
 
 returns-2 : tie.Need-returns-2
 returns-2 c =
-    let a = c .before .before .before .before .before .before .before .before .before .before .before .before .before .before .before .before .before .before .args in
-    let l = method (now (a .code)) (now (a .kinds)) (now (a .words)) in
+    let a = c .before .before .before .before .before .before .before .before .before .before .before .before .before .before .before .before .before .before .before .args in
+    let l = method (now (a .code)) (now (a .kinds)) (now (a .words)) (now (a .handlers)) in
     made l (now (a .bytes)) (a .s) (now (a .slots)) (now (a .log)) (now (a .answers)) _ (omega (arith, c .before .before .before .before .before .before .before .before .before .before .if1 .left)) (c .before .before .before .before .before .before .make-presses .ensures)
 
 pub presses-spec : {M : Type 1} → statement M

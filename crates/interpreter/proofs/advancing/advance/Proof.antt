@@ -20,16 +20,16 @@ enum-told : tie.Need-enum-told
 enum-told c = search needs
 
 advance-framed-requires : tie.Need-advance-framed-requires
-advance-framed-requires c κs = row-passed _ (sym (c .before .enum-told .given .1) ∙ c .before .before .before .check-frame .ensures)
+advance-framed-requires c κs = row-passed _ (sym (c .before .enum-told .given .1) ∙ c .before .before .before .check-frame .ensures _)
 
 same-length : tie.Need-same-length
 same-length c = search needs
 
 returns : tie.Need-returns
 returns c =
-    let a = c .before .before .before .before .before .before .before .before .before .args in
-    let l = method (now (a .code)) (now (a .kinds)) (now (a .words)) in
-    sym (advance-other l 0 (a .s) (now (a .slots)) (a .most) _ (by-frame l (a .s) (now (a .slots)) _ (sym (c .before .asked .given .1) ∙ c .before .before .before .check-frame .ensures)) (inr (inr refl)))
+    let a = c .before .before .before .before .before .before .before .before .before .before .args in
+    let l = method (now (a .code)) (now (a .kinds)) (now (a .words)) (now (a .handlers)) in
+    sym (advance-other l 0 (a .s) (now (a .slots)) (a .most) _ (by-frame l (a .s) (now (a .slots)) _ (sym (c .before .asked .given .1) ∙ c .before .before .before .check-frame .ensures _)) (inr (inr refl)))
 
 same-length-2 : tie.Need-same-length-2
 same-length-2 c = search needs

@@ -12,15 +12,15 @@ use Rattle.interpreter.proofs.advancing.advance_framed.Statement.{state
 use Rattle.interpreter.proofs.advancing.advance_framed.Tie as tie
 
 abbrev Inv-loop : tie.InvT-loop
-Inv-loop code kinds words slots₀ most t₀ steps₀ slots t steps = Going (method code kinds words) slots₀ most t₀ slots t steps
+Inv-loop code kinds words handlers slots₀ most t₀ steps₀ slots t steps = Going (method code kinds words handlers) slots₀ most t₀ slots t steps
 
 abbrev μ-loop : tie.MeasureT-loop
-μ-loop code kinds words slots₀ most t₀ steps₀ slots t steps = most - steps
+μ-loop code kinds words handlers slots₀ most t₀ steps₀ slots t steps = most - steps
 
 loop-holds : tie.Need-loop-holds Inv-loop μ-loop
 loop-holds c =
-    let a = c .before .before .before .before .args in
-    record { upto = omega arith; long = refl; framed = c .before .before .before .before .pre; rest = rw (sub-zero (a .most)) }
+    let a = c .before .before .before .before .before .args in
+    record { upto = omega arith; long = refl; framed = c .before .before .before .before .before .pre; rest = rw (sub-zero (a .most)) }
 
 decide-framed-requires : tie.Need-decide-framed-requires Inv-loop μ-loop
 decide-framed-requires c κs = c .before .loop .inv .framed
@@ -56,7 +56,7 @@ moved-requires c κs = search needs
 add-steps : tie.Need-add-steps Inv-loop μ-loop
 add-steps c =
     let t = c .before .before .before .before .before .before .before .before .before .before .before .loop in
-    omega (arith, t .inv .upto, c .before .before .before .before .before .if1 .left, c .before .before .before .before .before .before .before .before .before .before .before .before .before .before .before .before .fits .most)
+    omega (arith, t .inv .upto, c .before .before .before .before .before .if1 .left, c .before .before .before .before .before .before .before .before .before .before .before .before .before .before .before .before .before .fits .most)
 
 loop-less : tie.Need-loop-less Inv-loop μ-loop
 loop-less c = omega (arith, c .before .before .before .before .before .before .before .before .before .before .before .loop .inv .upto, c .before .before .before .before .before .if1 .left)

@@ -17,13 +17,13 @@ enum-told : tie.Need-enum-told
 enum-told c = search needs
 
 decide-framed-requires : tie.Need-decide-framed-requires
-decide-framed-requires c κs = row-passed _ (sym (c .enum-told .given .1) ∙ c .before .before .check-frame .ensures)
+decide-framed-requires c κs = row-passed _ (sym (c .enum-told .given .1) ∙ c .before .before .check-frame .ensures _)
 
 settle-requires : tie.Need-settle-requires
 settle-requires c κs = search needs
 
 returns : tie.Need-returns
-returns c = sym (by-frame _ _ (now (c .before .before .before .before .before .before .before .before .args .slots)) _ (sym (c .before .asked .given .1) ∙ c .before .before .before .check-frame .ensures))
+returns c = sym (by-frame _ _ (now (c .before .before .before .before .before .before .before .before .before .args .slots)) _ (sym (c .before .asked .given .1) ∙ c .before .before .before .check-frame .ensures _))
 
 returns-2 : tie.Need-returns-2
 returns-2 c = c .settle .ensures ∙ c .before .decide-framed .ensures

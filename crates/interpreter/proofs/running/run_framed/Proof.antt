@@ -15,8 +15,8 @@ ended-requires c κs = search needs
 
 returns : tie.Need-returns
 returns c =
-    let a = c .before .before .before .before .before .before .args in
-    let l = method (now (a .code)) (now (a .kinds)) (now (a .words)) in
+    let a = c .before .before .before .before .before .before .before .args in
+    let l = method (now (a .code)) (now (a .kinds)) (now (a .words)) (now (a .handlers)) in
     rw (c .ended .ensures) (no-budget l (a .budget) (a .s) (now (a .slots)) (c .before .if1 .taken))
 
 sub-advance-framed : tie.Need-sub-advance-framed
@@ -42,16 +42,16 @@ same-length c = search needs
 
 returns-2 : tie.Need-returns-2
 returns-2 c =
-    let a = c .before .before .before .before .before .before .before .before .before .before .before .before .before .before .args in
+    let a = c .before .before .before .before .before .before .before .before .before .before .before .before .before .before .before .args in
     let r = c .before .before .before .before .before .before .before .advance-framed .result in
-    let l = method (now (a .code)) (now (a .kinds)) (now (a .words)) in
+    let l = method (now (a .code)) (now (a .kinds)) (now (a .words)) (now (a .handlers)) in
     rw (c .ended2 .ensures, c .before .end-of .ensures, c .before .before .settle .ensures)
     (ends-other l (a .budget) (a .s) (now (a .slots)) (c .before .before .before .before .before .before .before .before .before .if1 .left) _ (c .before .before .before .before .before .before .before .advance-framed .ensures .0) (settled-other (r .state .«return_type») (r .decision) (c .before .before .before .match .keys2)))
 
 commit-requires : tie.Need-commit-requires
 commit-requires c κs =
-    let a = c .before .before .before .before .before .before .before .before .before .before .before .before .before .before .args in
-    let l = method (now (a .code)) (now (a .kinds)) (now (a .words)) in
+    let a = c .before .before .before .before .before .before .before .before .before .before .before .before .before .before .before .args in
+    let l = method (now (a .code)) (now (a .kinds)) (now (a .words)) (now (a .handlers)) in
     let k = legal-last l (a .budget) (a .s) (now (a .slots)) (c .before .before .before .before .before .before .before .before .before .if1 .left) _ (c .before .before .before .before .before .before .before .advance-framed .ensures .0) _ (ap (settled _) (c .before .before .decision .given .1)) in
     (k .few, k .within, k .frame-there .room)
 
@@ -59,15 +59,15 @@ moved-requires : tie.Need-moved-requires
 moved-requires c κs = search needs
 
 add-steps : tie.Need-add-steps
-add-steps c = omega (arith, c .before .before .before .before .before .before .before .before .before .before .before .before .advance-framed .ensures .1, c .before .before .before .before .before .before .before .before .before .before .before .before .before .before .if1 .left, c .before .before .before .before .before .before .before .before .before .before .before .before .before .before .before .before .before .before .before .fits .budget)
+add-steps c = omega (arith, c .before .before .before .before .before .before .before .before .before .before .before .before .advance-framed .ensures .1, c .before .before .before .before .before .before .before .before .before .before .before .before .before .before .if1 .left, c .before .before .before .before .before .before .before .before .before .before .before .before .before .before .before .before .before .before .before .before .fits .budget)
 
 same-length-2 : tie.Need-same-length-2
 same-length-2 c = search needs
 
 returns-3 : tie.Need-returns-3
 returns-3 c =
-    let a = c .before .before .before .before .before .before .before .before .before .before .before .before .before .before .before .before .before .before .before .args in
-    let l = method (now (a .code)) (now (a .kinds)) (now (a .words)) in
+    let a = c .before .before .before .before .before .before .before .before .before .before .before .before .before .before .before .before .before .before .before .before .args in
+    let l = method (now (a .code)) (now (a .kinds)) (now (a .words)) (now (a .handlers)) in
     rw (c .before .moved .ensures, c .before .before .before .before .commit .ensures) (ends-stopped l (a .budget) (a .s) (now (a .slots)) (c .before .before .before .before .before .before .before .before .before .before .before .before .before .before .if1 .left) _ (c .before .before .before .before .before .before .before .before .before .before .before .before .advance-framed .ensures .0) _ (ap (settled _) (c .before .before .before .before .before .before .before .decision .given .1)))
 
 pub run-framed-spec : {M : Type 1} → statement M

@@ -23,16 +23,16 @@ same-length c = search needs
 
 returns : tie.Need-returns
 returns c =
-    let a = c .before .before .before .before .before .before .before .before .before .before .args in
-    let l = method (now (a .code)) (now (a .kinds)) (now (a .words)) in
+    let a = c .before .before .before .before .before .before .before .before .before .before .before .args in
+    let l = method (now (a .code)) (now (a .kinds)) (now (a .words)) (now (a .handlers)) in
     let r = c .before .before .before .before .advance in
     rw (c .settle .ensures, settled-there l (a .s) (now (a .slots)) _ (r .ensures) (r .result .decision))
     (step-other l (a .s) (now (a .slots)) _ (r .ensures) (settled-other (r .result .state .«return_type») (r .result .decision) (c .before .match .keys2)))
 
 commit-requires : tie.Need-commit-requires
 commit-requires c κs =
-    let a = c .before .before .before .before .before .before .before .before .before .before .before .before .args in
-    let l = method (now (a .code)) (now (a .kinds)) (now (a .words)) in
+    let a = c .before .before .before .before .before .before .before .before .before .before .before .before .before .args in
+    let l = method (now (a .code)) (now (a .kinds)) (now (a .words)) (now (a .handlers)) in
     let k = legal-there l (a .s) (now (a .slots)) _ (c .before .before .before .before .before .before .advance .ensures) _ (ap (settled _) (c .before .before .decision .given .1)) in
     (k .few, k .within, k .frame-there .room)
 
@@ -44,8 +44,8 @@ same-length-2 c = search needs
 
 returns-2 : tie.Need-returns-2
 returns-2 c =
-    let a = c .before .before .before .before .before .before .before .before .before .before .before .before .before .before .before .before .args in
-    let l = method (now (a .code)) (now (a .kinds)) (now (a .words)) in
+    let a = c .before .before .before .before .before .before .before .before .before .before .before .before .before .before .before .before .before .args in
+    let l = method (now (a .code)) (now (a .kinds)) (now (a .words)) (now (a .handlers)) in
     rw (c .moved .ensures, c .before .before .before .commit .ensures) (step-ordinary l (a .s) (now (a .slots)) _ (c .before .before .before .before .before .before .before .before .before .before .advance .ensures) _ (ap (settled _) (c .before .before .before .before .before .before .decision .given .1)))
 
 pub step-spec : {M : Type 1} → statement M

@@ -15,15 +15,15 @@ use Rattle.workbook.proofs.lists.workbook_presses.Tie as tie
 
 returns : tie.Need-returns
 returns c =
-    let a = c .before .before .before .before .before .before .before .before .before .args in
-    let l = method (now (a .code)) (now (a .kinds)) (now (a .words)) in
+    let a = c .before .before .before .before .before .before .before .before .before .before .args in
+    let l = method (now (a .code)) (now (a .kinds)) (now (a .words)) (now (a .handlers)) in
     list-promised l (now (a .slots)) (now (a .log)) (now (a .state)) (now (a .bytes)) (now (a .answers)) _
     (few-answers (coreMachine l) (now (a .slots)) (now (a .log)) (now (a .state)) (now (a .bytes)) (now (a .answers)) (omega (arith, c .if1 .taken)))
 
 returns-2 : tie.Need-returns-2
 returns-2 c =
-    let a = c .before .before .before .before .before .before .before .before .before .before .args in
-    let l = method (now (a .code)) (now (a .kinds)) (now (a .words)) in
+    let a = c .before .before .before .before .before .before .before .before .before .before .before .args in
+    let l = method (now (a .code)) (now (a .kinds)) (now (a .words)) (now (a .handlers)) in
     list-promised l (now (a .slots)) (now (a .log)) (now (a .state)) (now (a .bytes)) (now (a .answers)) _
     (few-state (coreMachine l) (now (a .slots)) (now (a .log)) (now (a .state)) (now (a .bytes)) (now (a .answers)) (omega (arith, c .before .if1 .left)) (c .if2 .taken))
 
@@ -44,13 +44,13 @@ same-length-3 c = search needs
 
 returns-3 : tie.Need-returns-3
 returns-3 c =
-    let a = c .before .before .before .before .before .before .before .before .before .before .before .before .before .before .before .before .before .before .before .before .args in
-    let l = method (now (a .code)) (now (a .kinds)) (now (a .words)) in
+    let a = c .before .before .before .before .before .before .before .before .before .before .before .before .before .before .before .before .before .before .before .before .before .args in
+    let l = method (now (a .code)) (now (a .kinds)) (now (a .words)) (now (a .handlers)) in
     list-promised l (now (a .slots)) (now (a .log)) (now (a .state)) (now (a .bytes)) (now (a .answers)) _
     (no-state (coreMachine l) (now (a .slots)) (now (a .log)) (now (a .state)) (now (a .bytes)) (now (a .answers)) (omega (arith, c .before .before .before .before .before .before .before .before .before .before .before .if1 .left)) (c .before .before .before .before .before .before .before .before .before .before .if2 .left) (sizes-no _ (sym (c .before .before .before .before .before .before .before .before .sizes-fit .ensures) ∙ not-true _ (c .before .before .before .before .before .before .before .if3 .taken))) _ _ (c .before .before .before .before .refuse-presses .ensures .0) (c .before .before .before .before .refuse-presses .ensures .1))
 
 read-state-requires : tie.Need-read-state-requires
-read-state-requires c κs = (c .before .before .before .before .if2 .left, sizes-yes (now (c .before .before .before .before .before .before .before .before .before .before .before .before .before .before .args .state)) (sym (c .before .before .sizes-fit .ensures) ∙ not-false _ (c .before .if3 .left)))
+read-state-requires c κs = (c .before .before .before .before .if2 .left, sizes-yes (now (c .before .before .before .before .before .before .before .before .before .before .before .before .before .before .before .args .state)) (sym (c .before .before .sizes-fit .ensures) ∙ not-false _ (c .before .if3 .left)))
 
 presses-requires : tie.Need-presses-requires
 presses-requires c κs = search needs
@@ -72,8 +72,8 @@ same-length-7 c = search needs
 
 returns-4 : tie.Need-returns-4
 returns-4 c =
-    let a = c .before .before .before .before .before .before .before .before .before .before .before .before .before .before .before .before .before .before .before .before .before .before .before .before .before .before .before .before .before .args in
-    let l = method (now (a .code)) (now (a .kinds)) (now (a .words)) in
+    let a = c .before .before .before .before .before .before .before .before .before .before .before .before .before .before .before .before .before .before .before .before .before .before .before .before .before .before .before .before .before .before .args in
+    let l = method (now (a .code)) (now (a .kinds)) (now (a .words)) (now (a .handlers)) in
     list-promised l (now (a .slots)) (now (a .log)) (now (a .state)) (now (a .bytes)) (now (a .answers)) _
     (list-made (coreMachine l) (now (a .slots)) (now (a .log)) (now (a .state)) (now (a .bytes)) (now (a .answers)) (omega (arith, c .before .before .before .before .before .before .before .before .before .before .before .before .before .before .before .before .before .before .before .before .if1 .left)) (c .before .before .before .before .before .before .before .before .before .before .before .before .before .before .before .before .before .before .before .if2 .left) (is-passed _ (sym (c .before .before .before .before .before .before .before .before .before .before .before .before .before .before .before .before .before .sizes-fit .ensures) ∙ not-false _ (c .before .before .before .before .before .before .before .before .before .before .before .before .before .before .before .before .if3 .left))) _ _ _ _ _ _ (rw (c .before .before .before .before .before .before .before .before .before .before .before .before .before .before .read-state .ensures) at (c .before .before .before .before .before .before .before .before .before .before .presses .ensures .0)) (c .before .before .write-state .ensures))
 

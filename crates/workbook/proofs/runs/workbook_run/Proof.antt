@@ -21,15 +21,15 @@ same-length-2 c = search needs
 
 returns : tie.Need-returns
 returns c =
-    let a = c .before .before .before .before .before .before .before .before .before .before .args in
-    let l = machine (now (a .code)) (now (a .kinds)) (now (a .words)) in
+    let a = c .before .before .before .before .before .before .before .before .before .before .before .args in
+    let l = machine (now (a .code)) (now (a .kinds)) (now (a .words)) (now (a .handlers)) in
     run-short l (now (a .slots)) (now (a .state)) (now (a .answer)) (a .budget) (lengths-no _ _ 4 (sym (c .before .are-lent .ensures) ∙ not-true _ (c .if1 .taken)))
 
 sizes-fit-requires : tie.Need-sizes-fit-requires
-sizes-fit-requires c κs = (lengths-yes (now (c .before .before .before .before .before .before .before .before .before .before .before .args .state)) (now (c .before .before .before .before .before .before .before .before .before .before .before .args .answer)) 4 (sym (c .before .before .are-lent .ensures) ∙ not-false _ (c .before .if1 .left))) .0
+sizes-fit-requires c κs = (lengths-yes (now (c .before .before .before .before .before .before .before .before .before .before .before .before .args .state)) (now (c .before .before .before .before .before .before .before .before .before .before .before .before .args .answer)) 4 (sym (c .before .before .are-lent .ensures) ∙ not-false _ (c .before .if1 .left))) .0
 
 write-steps-requires : tie.Need-write-steps-requires
-write-steps-requires c κs = (lengths-yes (now (c .before .before .before .before .before .before .before .before .before .before .before .before .before .before .args .state)) (now (c .before .before .before .before .before .before .before .before .before .before .before .before .before .before .args .answer)) 4 (sym (c .before .before .before .before .before .are-lent .ensures) ∙ not-false _ (c .before .before .before .before .if1 .left))) .1
+write-steps-requires c κs = (lengths-yes (now (c .before .before .before .before .before .before .before .before .before .before .before .before .before .before .before .args .state)) (now (c .before .before .before .before .before .before .before .before .before .before .before .before .before .before .before .args .answer)) 4 (sym (c .before .before .before .before .before .are-lent .ensures) ∙ not-false _ (c .before .before .before .before .if1 .left))) .1
 
 same-length-3 : tie.Need-same-length-3
 same-length-3 c = search needs
@@ -39,12 +39,12 @@ same-length-4 c = search needs
 
 returns-2 : tie.Need-returns-2
 returns-2 c =
-    let a = c .before .before .before .before .before .before .before .before .before .before .before .before .before .before .before .before .before .args in
-    let l = machine (now (a .code)) (now (a .kinds)) (now (a .words)) in
+    let a = c .before .before .before .before .before .before .before .before .before .before .before .before .before .before .before .before .before .before .args in
+    let l = machine (now (a .code)) (now (a .kinds)) (now (a .words)) (now (a .handlers)) in
     run-sizes l (now (a .slots)) (now (a .state)) (now (a .answer)) (a .budget) (is-passed _ (sym (c .before .before .before .before .before .before .before .before .are-lent .ensures) ∙ not-false _ (c .before .before .before .before .before .before .before .if1 .left))) (sizes-no _ (sym (c .before .before .before .before .before .sizes-fit .ensures) ∙ not-true _ (c .before .before .before .before .if2 .taken))) _ (c .before .before .write-steps .ensures)
 
 read-state-requires : tie.Need-read-state-requires
-read-state-requires c κs = ((lengths-yes (now (c .before .before .before .before .before .before .before .before .before .before .before .before .before .before .before .args .state)) (now (c .before .before .before .before .before .before .before .before .before .before .before .before .before .before .before .args .answer)) 4 (sym (c .before .before .before .before .before .before .are-lent .ensures) ∙ not-false _ (c .before .before .before .before .before .if1 .left))) .0, sizes-yes (now (c .before .before .before .before .before .before .before .before .before .before .before .before .before .before .before .args .state)) (sym (c .before .before .before .sizes-fit .ensures) ∙ not-false _ (c .before .before .if2 .left)))
+read-state-requires c κs = ((lengths-yes (now (c .before .before .before .before .before .before .before .before .before .before .before .before .before .before .before .before .args .state)) (now (c .before .before .before .before .before .before .before .before .before .before .before .before .before .before .before .before .args .answer)) 4 (sym (c .before .before .before .before .before .before .are-lent .ensures) ∙ not-false _ (c .before .before .before .before .before .if1 .left))) .0, sizes-yes (now (c .before .before .before .before .before .before .before .before .before .before .before .before .before .before .before .before .args .state)) (sym (c .before .before .before .sizes-fit .ensures) ∙ not-false _ (c .before .before .if2 .left)))
 
 run-requires : tie.Need-run-requires
 run-requires c κs = search needs
@@ -53,10 +53,10 @@ end-answer-requires : tie.Need-end-answer-requires
 end-answer-requires c κs = search needs
 
 write-state-requires : tie.Need-write-state-requires
-write-state-requires c κs = (lengths-yes (now (c .before .before .before .before .before .before .before .before .before .before .before .before .before .before .before .before .before .before .before .before .before .args .state)) (now (c .before .before .before .before .before .before .before .before .before .before .before .before .before .before .before .before .before .before .before .before .before .args .answer)) 4 (sym (c .before .before .before .before .before .before .before .before .before .before .before .before .are-lent .ensures) ∙ not-false _ (c .before .before .before .before .before .before .before .before .before .before .before .if1 .left))) .0
+write-state-requires c κs = (lengths-yes (now (c .before .before .before .before .before .before .before .before .before .before .before .before .before .before .before .before .before .before .before .before .before .before .args .state)) (now (c .before .before .before .before .before .before .before .before .before .before .before .before .before .before .before .before .before .before .before .before .before .before .args .answer)) 4 (sym (c .before .before .before .before .before .before .before .before .before .before .before .before .are-lent .ensures) ∙ not-false _ (c .before .before .before .before .before .before .before .before .before .before .before .if1 .left))) .0
 
 write-steps-requires-2 : tie.Need-write-steps-requires-2
-write-steps-requires-2 c κs = (lengths-yes (now (c .before .before .before .before .before .before .before .before .before .before .before .before .before .before .before .before .before .before .before .before .before .before .before .before .before .args .state)) (now (c .before .before .before .before .before .before .before .before .before .before .before .before .before .before .before .before .before .before .before .before .before .before .before .before .before .args .answer)) 4 (sym (c .before .before .before .before .before .before .before .before .before .before .before .before .before .before .before .before .are-lent .ensures) ∙ not-false _ (c .before .before .before .before .before .before .before .before .before .before .before .before .before .before .before .if1 .left))) .1
+write-steps-requires-2 c κs = (lengths-yes (now (c .before .before .before .before .before .before .before .before .before .before .before .before .before .before .before .before .before .before .before .before .before .before .before .before .before .before .args .state)) (now (c .before .before .before .before .before .before .before .before .before .before .before .before .before .before .before .before .before .before .before .before .before .before .before .before .before .before .args .answer)) 4 (sym (c .before .before .before .before .before .before .before .before .before .before .before .before .before .before .before .before .are-lent .ensures) ∙ not-false _ (c .before .before .before .before .before .before .before .before .before .before .before .before .before .before .before .if1 .left))) .1
 
 same-length-5 : tie.Need-same-length-5
 same-length-5 c = search needs
@@ -69,8 +69,8 @@ same-length-7 c = search needs
 
 returns-3 : tie.Need-returns-3
 returns-3 c =
-    let a = c .before .before .before .before .before .before .before .before .before .before .before .before .before .before .before .before .before .before .before .before .before .before .before .before .before .before .before .before .args in
-    let l = machine (now (a .code)) (now (a .kinds)) (now (a .words)) in
+    let a = c .before .before .before .before .before .before .before .before .before .before .before .before .before .before .before .before .before .before .before .before .before .before .before .before .before .before .before .before .before .args in
+    let l = machine (now (a .code)) (now (a .kinds)) (now (a .words)) (now (a .handlers)) in
     run-made l (now (a .slots)) (now (a .state)) (now (a .answer)) (a .budget) (is-passed _ (sym (c .before .before .before .before .before .before .before .before .before .before .before .before .before .before .before .before .before .before .before .are-lent .ensures) ∙ not-false _ (c .before .before .before .before .before .before .before .before .before .before .before .before .before .before .before .before .before .before .if1 .left))) (is-passed _ (sym (c .before .before .before .before .before .before .before .before .before .before .before .before .before .before .before .before .sizes-fit .ensures) ∙ not-false _ (c .before .before .before .before .before .before .before .before .before .before .before .before .before .before .before .if2 .left))) _ _ _ _ _ _ (c .before .before .before .before .before .before .before .before .end-answer .result) (rw (c .before .before .before .before .before .before .before .before .before .before .before .before .read-state .ensures) at (c .before .before .before .before .before .before .before .before .before .before .before .run .ensures .0)) (c .before .before .before .before .before .before .before .before .end-answer .ensures) (c .before .before .before .before .before .before .write-state .ensures) (c .before .before .write-steps2 .ensures)
 
 pub workbook-run-spec : {M : Type 1} → statement M

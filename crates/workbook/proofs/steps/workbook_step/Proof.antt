@@ -29,7 +29,7 @@ unfolding stepCall
 returns c = no-step _ _ _ _ _ _ (lengths-no _ _ 4 (sym (c .before .are-lent .ensures) ∙ not-true _ (c .if1 .taken)))
 
 sizes-fit-requires : tie.Need-sizes-fit-requires
-sizes-fit-requires c κs = (lengths-yes (now (c .before .before .before .before .before .before .before .before .before .before .before .args .state)) (now (c .before .before .before .before .before .before .before .before .before .before .before .args .answer)) 4 (sym (c .before .before .are-lent .ensures) ∙ not-false _ (c .before .if1 .left))) .0
+sizes-fit-requires c κs = (lengths-yes (now (c .before .before .before .before .before .before .before .before .before .before .before .before .args .state)) (now (c .before .before .before .before .before .before .before .before .before .before .before .before .args .answer)) 4 (sym (c .before .before .are-lent .ensures) ∙ not-false _ (c .before .if1 .left))) .0
 
 same-length-3 : tie.Need-same-length-3
 same-length-3 c = search needs
@@ -42,7 +42,7 @@ unfolding stepCall
 returns-2 c = no-step-second _ _ _ _ _ _ (is-passed _ (sym (c .before .before .before .before .are-lent .ensures) ∙ not-false _ (c .before .before .before .if1 .left))) (sizes-no _ (sym (c .before .sizes-fit .ensures) ∙ not-true _ (c .if2 .taken)))
 
 read-state-requires : tie.Need-read-state-requires
-read-state-requires c κs = ((lengths-yes (now (c .before .before .before .before .before .before .before .before .before .before .before .before .before .before .before .args .state)) (now (c .before .before .before .before .before .before .before .before .before .before .before .before .before .before .before .args .answer)) 4 (sym (c .before .before .before .before .before .before .are-lent .ensures) ∙ not-false _ (c .before .before .before .before .before .if1 .left))) .0, sizes-yes (now (c .before .before .before .before .before .before .before .before .before .before .before .before .before .before .before .args .state)) (sym (c .before .before .before .sizes-fit .ensures) ∙ not-false _ (c .before .before .if2 .left)))
+read-state-requires c κs = ((lengths-yes (now (c .before .before .before .before .before .before .before .before .before .before .before .before .before .before .before .before .args .state)) (now (c .before .before .before .before .before .before .before .before .before .before .before .before .before .before .before .before .args .answer)) 4 (sym (c .before .before .before .before .before .before .are-lent .ensures) ∙ not-false _ (c .before .before .before .before .before .if1 .left))) .0, sizes-yes (now (c .before .before .before .before .before .before .before .before .before .before .before .before .before .before .before .before .args .state)) (sym (c .before .before .before .sizes-fit .ensures) ∙ not-false _ (c .before .before .if2 .left)))
 
 step-requires : tie.Need-step-requires
 step-requires c κs = search needs
@@ -52,12 +52,12 @@ pressed-by-requires c κs = search needs
 
 leave-value-requires : tie.Need-leave-value-requires
 leave-value-requires c κs =
-    let h = lengths-yes (now (c .before .before .before .before .before .before .before .before .before .before .before .before .before .before .before .before .before .before .before .before .before .args .state)) (now (c .before .before .before .before .before .before .before .before .before .before .before .before .before .before .before .before .before .before .before .before .before .args .answer)) 4 (sym (c .before .before .before .before .before .before .before .before .before .before .before .before .are-lent .ensures) ∙ not-false _ (c .before .before .before .before .before .before .before .before .before .before .before .if1 .left)) in
-    let two : 2 ≤ length (now (c .before .before .before .before .before .before .before .before .before .before .before .before .before .before .before .before .before .before .before .before .before .args .answer)) = omega (arith, h .1) in
+    let h = lengths-yes (now (c .before .before .before .before .before .before .before .before .before .before .before .before .before .before .before .before .before .before .before .before .before .before .args .state)) (now (c .before .before .before .before .before .before .before .before .before .before .before .before .before .before .before .before .before .before .before .before .before .before .args .answer)) 4 (sym (c .before .before .before .before .before .before .before .before .before .before .before .before .are-lent .ensures) ∙ not-false _ (c .before .before .before .before .before .before .before .before .before .before .before .if1 .left)) in
+    let two : 2 ≤ length (now (c .before .before .before .before .before .before .before .before .before .before .before .before .before .before .before .before .before .before .before .before .before .before .args .answer)) = omega (arith, h .1) in
     two
 
 leave-requires : tie.Need-leave-requires
-leave-requires c κs = (lengths-yes (now (c .before .before .before .before .before .before .before .before .before .before .before .before .before .before .before .before .before .before .before .before .before .before .before .before .before .args .state)) (now (c .before .before .before .before .before .before .before .before .before .before .before .before .before .before .before .before .before .before .before .before .before .before .before .before .before .args .answer)) 4 (sym (c .before .before .before .before .before .before .before .before .before .before .before .before .before .before .before .before .are-lent .ensures) ∙ not-false _ (c .before .before .before .before .before .before .before .before .before .before .before .before .before .before .before .if1 .left))) .0
+leave-requires c κs = (lengths-yes (now (c .before .before .before .before .before .before .before .before .before .before .before .before .before .before .before .before .before .before .before .before .before .before .before .before .before .before .args .state)) (now (c .before .before .before .before .before .before .before .before .before .before .before .before .before .before .before .before .before .before .before .before .before .before .before .before .before .before .args .answer)) 4 (sym (c .before .before .before .before .before .before .before .before .before .before .before .before .before .before .before .before .are-lent .ensures) ∙ not-false _ (c .before .before .before .before .before .before .before .before .before .before .before .before .before .before .before .if1 .left))) .0
 
 same-length-5 : tie.Need-same-length-5
 same-length-5 c = search needs
@@ -70,8 +70,8 @@ same-length-7 c = search needs
 
 returns-3 : tie.Need-returns-3
 returns-3 c =
-    let a = c .before .before .before .before .before .before .before .before .before .before .before .before .before .before .before .before .before .before .before .before .before .before .before .before .before .before .before .before .args in
-    let l = machine (now (a .code)) (now (a .kinds)) (now (a .words)) in
+    let a = c .before .before .before .before .before .before .before .before .before .before .before .before .before .before .before .before .before .before .before .before .before .before .before .before .before .before .before .before .before .args in
+    let l = machine (now (a .code)) (now (a .kinds)) (now (a .words)) (now (a .handlers)) in
     step-made l (now (a .slots)) [] (now (a .state)) (now (a .answer)) (is-passed _ (sym (c .before .before .before .before .before .before .before .before .before .before .before .before .before .before .before .before .sizes-fit .ensures) ∙ not-false _ (c .before .before .before .before .before .before .before .before .before .before .before .before .before .before .before .if2 .left))) _ _ _ _ [] _ _ (c .before .before .leave .ensures .0) (c .before .before .leave .ensures .1) (is-passed _ (sym (c .before .before .before .before .before .before .before .before .before .before .before .before .before .before .before .before .before .before .before .are-lent .ensures) ∙ not-false _ (c .before .before .before .before .before .before .before .before .before .before .before .before .before .before .before .before .before .before .if1 .left))) (c .before .before .before .before .before .before .leave-value .ensures) _ (rw (c .before .before .before .before .before .before .before .before .before .before .before .before .read-state .ensures) at (c .before .before .before .before .before .before .before .before .before .before .before .step .ensures)) (c .before .before .before .before .before .before .before .before .pressed-by .ensures)
 
 pub workbook-step-spec : {M : Type 1} → statement M
