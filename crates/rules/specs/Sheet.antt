@@ -46,13 +46,17 @@ markNumber KI = 4
 markNumber EX = 5
 markNumber AR = 6
 
+-- what comes after the pool, of which every part may be missing but the code
+abbrev pub endsPool : ℕ → Bool
+endsPool last = (last =ⁿ markNumber CD) || (last =ⁿ markNumber KI) || (last =ⁿ markNumber EX)
+
 abbrev pub follows : Mark → ℕ → Bool
 follows LM last = last =ⁿ 0
 follows DS last = last =ⁿ markNumber LM
 follows CD last = (last =ⁿ markNumber LM) || (last =ⁿ markNumber DS)
 follows KI last = (last =ⁿ markNumber CD) || (last =ⁿ markNumber KI)
-follows EX last = (last =ⁿ markNumber CD) || (last =ⁿ markNumber KI) || (last =ⁿ markNumber EX)
-follows AR last = (last =ⁿ markNumber CD) || (last =ⁿ markNumber KI) || (last =ⁿ markNumber EX)
+follows EX last = endsPool last
+follows AR last = endsPool last
 
 abbrev pub rightLength : Mark → ℕ → Bool
 rightLength LM n = n =ⁿ 4
@@ -82,9 +86,13 @@ poolIndex sheet at = u16 sheet (bodyAt at)
 abbrev pub poolTag : List ℕ → ℕ → ℕ
 poolTag sheet at = u8 sheet (bodyAt at + 2)
 
--- 7 bytes for an int, a float or a class, and else 11 for a long or a double
+-- an int, a float or a class
+abbrev pub isNarrow : ℕ → Bool
+isNarrow tag = (tag =ⁿ 3) || (tag =ⁿ 4) || (tag =ⁿ classTag)
+
+-- 7 bytes for these, and else 11 for a long or a double
 abbrev pub tagSuits : ℕ → ℕ → Bool
-tagSuits tag n = cond (n =ⁿ 7) ((tag =ⁿ 3) || (tag =ⁿ 4) || (tag =ⁿ classTag)) ((tag =ⁿ 5) || (tag =ⁿ 6))
+tagSuits tag n = cond (n =ⁿ 7) (isNarrow tag) ((tag =ⁿ 5) || (tag =ⁿ 6))
 
 -- the word of a class: 1 where ArithmeticException can be assigned to it, else 0
 abbrev pub wordSuits : ℕ → ℕ → Bool

@@ -1,7 +1,7 @@
 // The marks of a sheet's records: which they are, which may follow which, and the lengths that they allow.
 use rules::Mark;
 ghost use mathlib.Core.Path.{_≡_};
-ghost use Rattle.rules.specs.Sheet.{tagSuits, wordSuits, knownMark, follows, rightLength};
+ghost use Rattle.rules.specs.Sheet.{isNarrow, tagSuits, wordSuits, knownMark, endsPool, follows, rightLength};
 ghost use Rattle.sheet.specs.Records.{markAnswer};
 
 // The marks in ASCII.
@@ -79,6 +79,19 @@ pub(crate) fn known_mark(bytes: u16) -> Known
     Known::Refused(22)
 }
 
+// Whether a record that stands after the pool may come after the last one.
+fn ends_pool(last: u32) -> bool
+    ensures { λ r. ⌜ r ≡ endsPool last ⌝ }
+{
+    if last == AFTER_CD {
+        return true;
+    }
+    if last == AFTER_KI {
+        return true;
+    }
+    last == AFTER_EX
+}
+
 // Whether a record may come after the last one.
 pub(crate) fn may_follow(mark: Mark, last: u32) -> bool
     ensures { λ r. ⌜ r ≡ follows mark last ⌝ }
@@ -88,8 +101,8 @@ pub(crate) fn may_follow(mark: Mark, last: u32) -> bool
         Mark::DS => last == AFTER_LM,
         Mark::CD => last == AFTER_LM || last == AFTER_DS,
         Mark::KI => last == AFTER_CD || last == AFTER_KI,
-        Mark::EX => last == AFTER_CD || last == AFTER_KI || last == AFTER_EX,
-        Mark::AR => last == AFTER_CD || last == AFTER_KI || last == AFTER_EX,
+        Mark::EX => ends_pool(last),
+        Mark::AR => ends_pool(last),
     }
 }
 
@@ -107,12 +120,25 @@ pub(crate) fn right_length(mark: Mark, size: u16) -> bool
     }
 }
 
+// Whether a constant of this tag has one word.
+fn is_narrow(tag: u8) -> bool
+    ensures { λ r. ⌜ r ≡ isNarrow tag ⌝ }
+{
+    if tag == CONSTANT_INTEGER {
+        return true;
+    }
+    if tag == CONSTANT_FLOAT {
+        return true;
+    }
+    tag == CONSTANT_CLASS
+}
+
 // Whether a tag suits the body's length.
 pub(crate) fn tag_suits(tag: u8, size: u16) -> bool
     ensures { λ r. ⌜ r ≡ tagSuits tag size ⌝ }
 {
     if size == NARROW_CONSTANT {
-        return tag == CONSTANT_INTEGER || tag == CONSTANT_FLOAT || tag == CONSTANT_CLASS;
+        return is_narrow(tag);
     }
     tag == CONSTANT_LONG || tag == CONSTANT_DOUBLE
 }

@@ -1,4 +1,5 @@
--- `check` meets its contract. The loop's invariant: what is left to read gives what the whole sheet gives. Assumes nothing.
+-- `check_sheet` meets its contract. The loop's invariant: what was read lies before the next record, and what is left to read gives what the whole sheet gives.
+-- Assumes nothing.
 use Prim.Native.Nat.{_-_, _≤_}
 use mathlib.Core.Path.{_≡_, sym, ap, _∙_}
 use native.Mathlib.Omega.{arith}
@@ -9,6 +10,7 @@ use borrow.Author.Tests.{eq-eqb, ne-eqb}
 use Rattle.rules.specs.Check.{_else_, _>>_}
 use Rattle.rules.specs.Sheet.{readFrom, sheetCheck}
 use Rattle.rules.proofs.Sheet.{read-end, next-record, bad-record, record-there}
+use Rattle.rules.proofs.Placement.{Placed, nothing-read, next-placed}
 use Rattle.sheet.specs.Records.{recordAnswer}
 use Rattle.sheet.proofs.Answers.{record-read, record-refused}
 use borrow.Author.Needs.{needs}
@@ -16,7 +18,7 @@ use Rattle.sheet.proofs.checking.check_sheet.Statement.{statement}
 use Rattle.sheet.proofs.checking.check_sheet.Tie as tie
 
 abbrev Inv-loop : tie.InvT-loop
-Inv-loop sheet p₀ at₀ p at = (at ≤ length sheet) × (readFrom (length sheet - at) sheet at p ≡ sheetCheck sheet)
+Inv-loop sheet p₀ at₀ p at = (at ≤ length sheet) × (readFrom (length sheet - at) sheet at p ≡ sheetCheck sheet) × (Placed sheet at p)
 
 abbrev μ-loop : tie.MeasureT-loop
 μ-loop sheet p₀ at₀ p at = length sheet - at
@@ -26,10 +28,10 @@ unread-requires c κs = search needs
 
 loop-holds : tie.Need-loop-holds Inv-loop μ-loop
 unfolding sheetCheck
-loop-holds c = (omega arith, rw (c .unread .ensures, sub-zero (length (now (c .before .before .args .sheet)))))
+loop-holds c = let sheet = now (c .before .before .args .sheet) in (omega arith, rw (c .unread .ensures, sub-zero (length sheet)), rw (c .unread .ensures) (nothing-read sheet))
 
 check-record-requires : tie.Need-check-record-requires Inv-loop μ-loop
-check-record-requires c κs = search needs
+check-record-requires c κs = let t = c .before .loop in (t .inv .0, (t .inv .2 .within .code-first, t .inv .2 .handlers-before))
 
 enum-known-record : tie.Need-enum-known-record Inv-loop μ-loop
 enum-known-record c = search needs
@@ -64,7 +66,11 @@ loop-again c =
     let t = c .before .before .before .before .before .before .loop in
     let sheet = now (c .before .before .before .before .before .before .before .before .before .args .sheet) in
     let read = record-read _ _ (sym (c .before .before .«record» .given .1) ∙ c .before .before .before .before .check-record .ensures) in
-    rw (c .body-length .ensures) (record-there sheet (t .at) (t .p) _ read, sym (next-record sheet (t .at) (t .p) (c .before .before .before .before .before .loop-test .taken) _ read) ∙ t .inv .1)
+    rw (c .body-length .ensures) (
+      record-there sheet (t .at) (t .p) _ read,
+      sym (next-record sheet (t .at) (t .p) (c .before .before .before .before .before .loop-test .taken) _ read) ∙ t .inv .1,
+      next-placed sheet (t .at) (t .p) _ (t .inv .2) read,
+    )
 
 returns-2 : tie.Need-returns-2 Inv-loop μ-loop
 unfolding _else_ _>>_

@@ -22,14 +22,28 @@ enum-told c = search needs
 last-index-requires : tie.Need-last-index-requires
 last-index-requires c κs = search needs
 
+add-q : tie.Need-add-q
+add-q c = search needs
+
+body-length-requires : tie.Need-body-length-requires
+body-length-requires c κs = search needs
+
+cast-q : tie.Need-cast-q
+cast-q c = search needs
+
+add-q-2 : tie.Need-add-q-2
+add-q-2 c = search needs
+
 returns : tie.Need-returns
-returns c = let a = c .before .before .before .before .before .args in
+returns c =
+    let a = c .before .before .before .before .before .args in
     sym (ap recordAnswer (bad-contents (now (a .sheet)) (a .at) (a .p) KI _ (row-refused _ _ (sym (c .before .asked .given .1) ∙ c .before .before .before .check-constant .ensures))))
 
 returns-2 : tie.Need-returns-2
 unfolding withRecord
-returns-2 c = let a = c .before .before .before .before .before .args in
-    sym (ap recordAnswer (good-contents (now (a .sheet)) (a .at) (a .p) KI (row-passed _ (sym (c .before .enum-told .given .1) ∙ c .before .before .before .check-constant .ensures))) ∙ simp (← c .last-index .ensures))
+returns-2 c =
+    let a = c .before .before .before .before .before .before .args in
+    sym (ap recordAnswer (good-contents (now (a .sheet)) (a .at) (a .p) KI (row-passed _ (sym (c .before .before .enum-told .given .1) ∙ c .before .before .before .before .check-constant .ensures))) ∙ simp (← c .before .last-index .ensures, ← c .body-length .ensures))
 
 pub read-constant-spec : {M : Type 1} → statement M
 read-constant-spec =
@@ -39,5 +53,9 @@ read-constant-spec =
     enum-known-asked
     enum-told
     last-index-requires
+    add-q
+    body-length-requires
+    cast-q
+    add-q-2
     returns
     returns-2)

@@ -4,7 +4,8 @@ use mathlib.Core.Path.{sym, _∙_}
 use native.Mathlib.Omega.{arith}
 use denote.Ref.{now}
 use borrow.Author.Tests.{not-true, not-false}
-use Rattle.rules.proofs.Sheet.{sheet-within, load-short, load-accepted}
+use Rattle.rules.proofs.Sheet.{load-short, load-accepted}
+use Rattle.rules.proofs.Placement.{sheet-within}
 use Rattle.sheet.specs.Filled.{pool}
 use Rattle.sheet.proofs.Answers.{not-enough, enough, slots-reach}
 use borrow.Author.Needs.{needs}
@@ -35,38 +36,31 @@ returns c =
 add-fill-pool : tie.Need-add-fill-pool
 add-fill-pool c =
     let a = c .before .before .before .before .before .before .before .before .before .before .args in
-    let w = sheet-within (now (a .sheet)) (a .p) (c .before .before .before .before .before .before .before .before .before .before .pre) in
-    let last = w .1 in
-    let k : 3 ≤ a .p .last = omega arith in
-    omega (arith, w .0 .code-there k)
-
-sub-fill-pool : tie.Need-sub-fill-pool
-sub-fill-pool c =
-    let a = c .before .before .before .before .before .before .before .before .before .before .before .args in
-    let w = sheet-within (now (a .sheet)) (a .p) (c .before .before .before .before .before .before .before .before .before .before .before .pre) in
-    let last = w .1 in
-    let h : 5 ≤ a .p .last = omega arith in
-    omega (arith, w .0 .after-head h)
+    let (w, last) = sheet-within (now (a .sheet)) (a .p) (c .before .before .before .before .before .before .before .before .before .before .pre) in
+    let whole : 6 ≤ a .p .last = omega arith in
+    omega (arith, w .code-first, w .handlers-first whole, w .arguments-there whole)
 
 fill-pool-requires : tie.Need-fill-pool-requires
 fill-pool-requires c κs =
-    let a = c .before .before .before .before .before .before .before .before .before .before .before .before .before .args in
-    let w = sheet-within (now (a .sheet)) (a .p) (c .before .before .before .before .before .before .before .before .before .before .before .before .before .pre) in
-    let last = w .1 in
-    let h : 5 ≤ a .p .last = omega arith in
-    omega (arith, w .0 .arguments-there h)
+    let a = c .before .before .before .before .before .before .before .before .before .before .before .before .args in
+    let (w, last) = sheet-within (now (a .sheet)) (a .p) (c .before .before .before .before .before .before .before .before .before .before .before .before .pre) in
+    let whole : 6 ≤ a .p .last = omega arith in
+    omega (arith, w .handlers-first whole, w .arguments-there whole)
 
 fill-slots-requires : tie.Need-fill-slots-requires
 fill-slots-requires c κs =
-    let a = c .before .before .before .before .before .before .before .before .before .before .before .before .before .before .before .before .before .before .before .args in
-    let w = sheet-within (now (a .sheet)) (a .p) (c .before .before .before .before .before .before .before .before .before .before .before .before .before .before .before .before .before .before .before .pre) in
-    let last = w .1 in
-    let h : 5 ≤ a .p .last = omega arith in
-    let fits = slots-reach (a .p) (now (a .slots)) (now (a .kinds)) (now (a .words)) (enough (a .p) (now (a .slots)) (now (a .kinds)) (now (a .words)) (sym (c .before .before .before .before .before .before .before .before .before .before .before .is-enough .ensures) ∙ not-false _ (c .before .before .before .before .before .before .before .before .before .before .if1 .left))) in
-    (w .0 .arguments-there h, w .0 .few-arguments h, fits)
+    let a = c .before .before .before .before .before .before .before .before .before .before .before .before .before .before .before .before .before .before .args in
+    let (w, last) = sheet-within (now (a .sheet)) (a .p) (c .before .before .before .before .before .before .before .before .before .before .before .before .before .before .before .before .before .before .pre) in
+    let whole : 6 ≤ a .p .last = omega arith in
+    let fits = slots-reach (a .p) (now (a .slots)) (now (a .kinds)) (now (a .words)) (enough (a .p) (now (a .slots)) (now (a .kinds)) (now (a .words)) (sym (c .before .before .before .before .before .before .before .before .before .before .is-enough .ensures) ∙ not-false _ (c .before .before .before .before .before .before .before .before .before .if1 .left))) in
+    (w .arguments-there whole, w .few-arguments whole, fits)
 
 accepted-load-requires : tie.Need-accepted-load-requires
-accepted-load-requires c κs = search needs
+accepted-load-requires c κs =
+    let a = c .before .before .before .before .before .before .before .before .before .before .before .before .before .before .before .before .before .before .before .before .before .args in
+    let (w, last) = sheet-within (now (a .sheet)) (a .p) (c .before .before .before .before .before .before .before .before .before .before .before .before .before .before .before .before .before .before .before .before .before .pre) in
+    let whole : 6 ≤ a .p .last = omega arith in
+    w .handlers-first whole
 
 same-length-4 : tie.Need-same-length-4
 same-length-4 c = search needs
@@ -79,10 +73,10 @@ same-length-6 c = search needs
 
 returns-2 : tie.Need-returns-2
 returns-2 c =
-    let a = c .before .before .before .before .before .before .before .before .before .before .before .before .before .before .before .before .before .before .before .before .before .before .before .args in
-    let fits = enough (a .p) (now (a .slots)) (now (a .kinds)) (now (a .words)) (sym (c .before .before .before .before .before .before .before .before .before .before .before .before .before .before .before .is-enough .ensures) ∙ not-false _ (c .before .before .before .before .before .before .before .before .before .before .before .before .before .before .if1 .left)) in
+    let a = c .before .before .before .before .before .before .before .before .before .before .before .before .before .before .before .before .before .before .before .before .before .before .args in
+    let fits = enough (a .p) (now (a .slots)) (now (a .kinds)) (now (a .words)) (sym (c .before .before .before .before .before .before .before .before .before .before .before .before .before .before .is-enough .ensures) ∙ not-false _ (c .before .before .before .before .before .before .before .before .before .before .before .before .before .if1 .left)) in
     rw (c .accepted-load .ensures, c .before .before .before .fill-slots .ensures)
-    (load-accepted (now (a .sheet)) (now (a .slots)) (now (a .kinds)) (now (a .words)) (a .p) (c .before .before .before .before .before .before .before .before .before .before .before .before .before .before .before .before .before .before .before .before .before .before .before .pre) fits (pool _ _) (c .before .before .before .before .before .before .before .before .before .fill-pool .ensures))
+    (load-accepted (now (a .sheet)) (now (a .slots)) (now (a .kinds)) (now (a .words)) (a .p) (c .before .before .before .before .before .before .before .before .before .before .before .before .before .before .before .before .before .before .before .before .before .before .pre) fits (pool _ _) (c .before .before .before .before .before .before .before .before .before .fill-pool .ensures))
 
 pub load-read-spec : {M : Type 1} → statement M
 load-read-spec =
@@ -95,7 +89,6 @@ load-read-spec =
     same-length-3
     returns
     add-fill-pool
-    sub-fill-pool
     fill-pool-requires
     fill-slots-requires
     accepted-load-requires

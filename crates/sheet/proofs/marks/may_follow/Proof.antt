@@ -19,6 +19,15 @@ enum-told-4 c = search needs
 enum-told-5 : tie.Need-enum-told-5
 enum-told-5 c = search needs
 
+ends-pool-requires : tie.Need-ends-pool-requires
+ends-pool-requires c κs = search needs
+
+enum-told-6 : tie.Need-enum-told-6
+enum-told-6 c = search needs
+
+ends-pool-requires-2 : tie.Need-ends-pool-requires-2
+ends-pool-requires-2 c κs = search needs
+
 returns : tie.Need-returns
 returns c = simp (c .enum-told .given .1)
 
@@ -38,10 +47,10 @@ returns-6 : tie.Need-returns-6
 returns-6 c = simp (c .before .enum-told4 .given .1, ne-eqb _ _ (c .if2 .left))
 
 returns-7 : tie.Need-returns-7
-returns-7 c = simp (c .before .enum-told5 .given .1, eq-eqb _ _ (c .if3 .taken))
+returns-7 c = simp (c .before .enum-told5 .given .1, ← c .ends-pool .ensures)
 
 returns-8 : tie.Need-returns-8
-returns-8 c = simp (c .before .enum-told5 .given .1, ne-eqb _ _ (c .if3 .left))
+returns-8 c = simp (c .before .enum-told6 .given .1, ← c .ends-pool2 .ensures)
 
 pub may-follow-spec : {M : Type 1} → statement M
 may-follow-spec =
@@ -52,6 +61,9 @@ may-follow-spec =
     enum-told-3
     enum-told-4
     enum-told-5
+    ends-pool-requires
+    enum-told-6
+    ends-pool-requires-2
     returns
     returns-2
     returns-3

@@ -19,6 +19,9 @@ enum-told-4 c = search needs
 enum-told-5 : tie.Need-enum-told-5
 enum-told-5 c = search needs
 
+enum-told-6 : tie.Need-enum-told-6
+enum-told-6 c = search needs
+
 returns : tie.Need-returns
 returns c = simp (c .enum-told .given .1)
 
@@ -37,6 +40,9 @@ returns-5 c = simp (c .before .enum-told4 .given .1, ne-eqb _ _ (c .if1 .left))
 returns-6 : tie.Need-returns-6
 returns-6 c = simp (c .enum-told5 .given .1)
 
+returns-7 : tie.Need-returns-7
+returns-7 c = simp (c .enum-told6 .given .1)
+
 pub right-length-spec : {M : Type 1} → statement M
 right-length-spec =
     tie.close
@@ -46,9 +52,11 @@ right-length-spec =
     enum-told-3
     enum-told-4
     enum-told-5
+    enum-told-6
     returns
     returns-2
     returns-3
     returns-4
     returns-5
-    returns-6)
+    returns-6
+    returns-7)

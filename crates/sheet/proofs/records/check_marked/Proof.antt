@@ -1,8 +1,8 @@
 -- `check_marked` meets its contract. Assumes nothing.
-use mathlib.Core.Path.{sym, ap, _∙_}
+use mathlib.Core.Path.{_≡_, sym, ap, _∙_}
 use denote.Ref.{now}
 use borrow.Author.Tests.{not-true, not-false}
-use Rattle.rules.specs.Sheet.{contentsRead}
+use Rattle.rules.specs.Sheet.{contentsRead, markedCheck}
 use Rattle.rules.proofs.Sheet.{disordered, wrong-length, read-on}
 use Rattle.sheet.specs.Records.{recordAnswer}
 use borrow.Author.Needs.{needs}
@@ -13,7 +13,8 @@ may-follow-requires : tie.Need-may-follow-requires
 may-follow-requires c κs = search needs
 
 returns : tie.Need-returns
-returns c = let a = c .before .before .before .args in
+returns c =
+    let a = c .before .before .before .args in
     sym (ap recordAnswer (disordered (now (a .sheet)) (a .at) (a .p) (a .mark) (sym (c .before .may-follow .ensures) ∙ not-true _ (c .if1 .taken))))
 
 body-length-requires : tie.Need-body-length-requires
@@ -23,7 +24,8 @@ right-length-requires : tie.Need-right-length-requires
 right-length-requires c κs = search needs
 
 returns-2 : tie.Need-returns-2
-returns-2 c = let a = c .before .before .before .before .before .before .args in
+returns-2 c =
+    let a = c .before .before .before .before .before .before .args in
     let ordered = sym (c .before .before .before .before .may-follow .ensures) ∙ not-false _ (c .before .before .before .if1 .left) in
     let wrong = rw (c .before .before .body-length .ensures) at (sym (c .before .right-length .ensures) ∙ not-true _ (c .if2 .taken)) in
     sym (ap recordAnswer (wrong-length (now (a .sheet)) (a .at) (a .p) (a .mark) ordered wrong))
@@ -55,38 +57,40 @@ read-constant-requires c κs = search needs
 enum-told-5 : tie.Need-enum-told-5
 enum-told-5 c = search needs
 
+read-handler-requires : tie.Need-read-handler-requires
+read-handler-requires c κs = search needs
+
+enum-told-6 : tie.Need-enum-told-6
+enum-told-6 c = search needs
+
 read-arguments-requires : tie.Need-read-arguments-requires
 read-arguments-requires c κs = search needs
 
+-- in its place and of the right length it is what its contents are
+placed : (c : tie.Else2) → let a = c .before .before .before .before .before .before .args in markedCheck (now (a .sheet)) (a .at) (a .p) (a .mark) ≡ contentsRead (now (a .sheet)) (a .at) (a .p) (a .mark)
+placed c =
+    let a = c .before .before .before .before .before .before .args in
+    let ordered = sym (c .before .before .before .before .may-follow .ensures) ∙ not-false _ (c .before .before .before .if1 .left) in
+    let right = rw (c .before .before .body-length .ensures) at (sym (c .before .right-length .ensures) ∙ not-false _ (c .if2 .left)) in
+    read-on (now (a .sheet)) (a .at) (a .p) (a .mark) ordered right
+
 returns-3 : tie.Need-returns-3
-returns-3 c = let a = c .before .before .before .before .before .before .before .before .before .args in
-    let ordered = sym (c .before .before .before .before .before .before .before .may-follow .ensures) ∙ not-false _ (c .before .before .before .before .before .before .if1 .left) in
-    let right = rw (c .before .before .before .before .before .body-length .ensures) at (sym (c .before .before .before .before .right-length .ensures) ∙ not-false _ (c .before .before .before .if2 .left)) in
-    c .read-sizes .ensures ∙ sym (ap recordAnswer (read-on (now (a .sheet)) (a .at) (a .p) (a .mark) ordered right ∙ ap (contentsRead (now (a .sheet)) (a .at) (a .p)) (c .before .enum-told .given .1)))
+returns-3 c = c .read-sizes .ensures ∙ sym (ap recordAnswer (placed (c .before .before .before) ∙ ap (contentsRead (now (c .before .before .before .before .before .before .before .before .before .args .sheet)) (c .before .before .before .before .before .before .before .before .before .args .at) (c .before .before .before .before .before .before .before .before .before .args .p)) (c .before .enum-told .given .1)))
 
 returns-4 : tie.Need-returns-4
-returns-4 c = let a = c .before .before .before .before .before .before .before .before .before .args in
-    let ordered = sym (c .before .before .before .before .before .before .before .may-follow .ensures) ∙ not-false _ (c .before .before .before .before .before .before .if1 .left) in
-    let right = rw (c .before .before .before .before .before .body-length .ensures) at (sym (c .before .before .before .before .right-length .ensures) ∙ not-false _ (c .before .before .before .if2 .left)) in
-    c .read-types .ensures ∙ sym (ap recordAnswer (read-on (now (a .sheet)) (a .at) (a .p) (a .mark) ordered right ∙ ap (contentsRead (now (a .sheet)) (a .at) (a .p)) (c .before .enum-told2 .given .1)))
+returns-4 c = c .read-types .ensures ∙ sym (ap recordAnswer (placed (c .before .before .before) ∙ ap (contentsRead (now (c .before .before .before .before .before .before .before .before .before .args .sheet)) (c .before .before .before .before .before .before .before .before .before .args .at) (c .before .before .before .before .before .before .before .before .before .args .p)) (c .before .enum-told2 .given .1)))
 
 returns-5 : tie.Need-returns-5
-returns-5 c = let a = c .before .before .before .before .before .before .before .before .before .args in
-    let ordered = sym (c .before .before .before .before .before .before .before .may-follow .ensures) ∙ not-false _ (c .before .before .before .before .before .before .if1 .left) in
-    let right = rw (c .before .before .before .before .before .body-length .ensures) at (sym (c .before .before .before .before .right-length .ensures) ∙ not-false _ (c .before .before .before .if2 .left)) in
-    c .read-code .ensures ∙ sym (ap recordAnswer (read-on (now (a .sheet)) (a .at) (a .p) (a .mark) ordered right ∙ ap (contentsRead (now (a .sheet)) (a .at) (a .p)) (c .before .enum-told3 .given .1)))
+returns-5 c = c .read-code .ensures ∙ sym (ap recordAnswer (placed (c .before .before .before) ∙ ap (contentsRead (now (c .before .before .before .before .before .before .before .before .before .args .sheet)) (c .before .before .before .before .before .before .before .before .before .args .at) (c .before .before .before .before .before .before .before .before .before .args .p)) (c .before .enum-told3 .given .1)))
 
 returns-6 : tie.Need-returns-6
-returns-6 c = let a = c .before .before .before .before .before .before .before .before .before .args in
-    let ordered = sym (c .before .before .before .before .before .before .before .may-follow .ensures) ∙ not-false _ (c .before .before .before .before .before .before .if1 .left) in
-    let right = rw (c .before .before .before .before .before .body-length .ensures) at (sym (c .before .before .before .before .right-length .ensures) ∙ not-false _ (c .before .before .before .if2 .left)) in
-    c .read-constant .ensures ∙ sym (ap recordAnswer (read-on (now (a .sheet)) (a .at) (a .p) (a .mark) ordered right ∙ ap (contentsRead (now (a .sheet)) (a .at) (a .p)) (c .before .enum-told4 .given .1)))
+returns-6 c = c .read-constant .ensures ∙ sym (ap recordAnswer (placed (c .before .before .before) ∙ ap (contentsRead (now (c .before .before .before .before .before .before .before .before .before .args .sheet)) (c .before .before .before .before .before .before .before .before .before .args .at) (c .before .before .before .before .before .before .before .before .before .args .p)) (c .before .enum-told4 .given .1)))
 
 returns-7 : tie.Need-returns-7
-returns-7 c = let a = c .before .before .before .before .before .before .before .before .before .args in
-    let ordered = sym (c .before .before .before .before .before .before .before .may-follow .ensures) ∙ not-false _ (c .before .before .before .before .before .before .if1 .left) in
-    let right = rw (c .before .before .before .before .before .body-length .ensures) at (sym (c .before .before .before .before .right-length .ensures) ∙ not-false _ (c .before .before .before .if2 .left)) in
-    c .read-arguments .ensures ∙ sym (ap recordAnswer (read-on (now (a .sheet)) (a .at) (a .p) (a .mark) ordered right ∙ ap (contentsRead (now (a .sheet)) (a .at) (a .p)) (c .before .enum-told5 .given .1)))
+returns-7 c = c .read-handler .ensures ∙ sym (ap recordAnswer (placed (c .before .before .before) ∙ ap (contentsRead (now (c .before .before .before .before .before .before .before .before .before .args .sheet)) (c .before .before .before .before .before .before .before .before .before .args .at) (c .before .before .before .before .before .before .before .before .before .args .p)) (c .before .enum-told5 .given .1)))
+
+returns-8 : tie.Need-returns-8
+returns-8 c = c .read-arguments .ensures ∙ sym (ap recordAnswer (placed (c .before .before .before) ∙ ap (contentsRead (now (c .before .before .before .before .before .before .before .before .before .args .sheet)) (c .before .before .before .before .before .before .before .before .before .args .at) (c .before .before .before .before .before .before .before .before .before .args .p)) (c .before .enum-told6 .given .1)))
 
 pub check-marked-spec : {M : Type 1} → statement M
 check-marked-spec =
@@ -106,9 +110,12 @@ check-marked-spec =
     enum-told-4
     read-constant-requires
     enum-told-5
+    read-handler-requires
+    enum-told-6
     read-arguments-requires
     returns-3
     returns-4
     returns-5
     returns-6
-    returns-7)
+    returns-7
+    returns-8)
