@@ -6,13 +6,15 @@
  * All memory is the caller's and is lent for the time of a call: nothing is
  * kept. A lent part is a pointer and a length, counted in elements. Pointers
  * are never null, also of an empty part; uint32_t parts are aligned to 4; lent
- * parts do not overlap, but that code lies inside its sheet. Every length and
- * every word is met by an answer.
+ * parts do not overlap, but that code and handlers may lie inside the sheet.
+ * Every length and every word is met by an answer.
  *
  *   sheet    a whole sheet
- *   code     the part of the sheet that workbook_load handed back
+ *   code     the part of the sheet that workbook_load handed back as code
  *   kinds    the constant pool: one byte an index,
  *   words      and one word an index, as many as kinds
+ *   handlers the part of the sheet that workbook_load handed back as exception
+ *            table: 12 bytes an entry
  *   slots    locals, then operand stack
  *   log      ten words an entry
  *   state    seven words
@@ -31,7 +33,7 @@ extern "C" {
 #endif
 
 /* The version that this header describes: what workbook_version gives. */
-#define WORKBOOK_VERSION 2
+#define WORKBOOK_VERSION 3
 
 /* Words that must be lent. State words past the seventh and answer words past
    the fourth are never written. */
@@ -40,6 +42,12 @@ extern "C" {
 /* Words of a log entry, and of a press's answer in answers. */
 #define WORKBOOK_LOG_WORDS 10
 #define WORKBOOK_PRESS_WORDS 3
+/*
+ * Bytes of an entry of handlers, which is an EX record: mark and length, which
+ * no step looks at, then start, end, handler and catch type, 16 bits each,
+ * big-endian. Bytes after the last whole entry count for nothing.
+ */
+#define WORKBOOK_HANDLER_BYTES 12
 
 /*
  * The words of a state. The return type is the first character of the return
@@ -79,7 +87,7 @@ enum workbook_number {
     WORKBOOK_REFUSED_PUSH = 8,      /* what is pushed fits max_stack */
     WORKBOOK_REFUSED_LOCAL = 9,     /* locals below max_locals */
     WORKBOOK_REFUSED_CONSTANT = 10, /* the right kind at the pool index */
-    WORKBOOK_REFUSED_NEXT_PC = 11,  /* the next pc inside the code */
+    WORKBOOK_REFUSED_NEXT_PC = 11,  /* the next pc inside the code, a handler too */
     WORKBOOK_REFUSED_LOG_FULL = 12, /* forward: ten words of log left */
     WORKBOOK_REFUSED_START = 13,    /* back: count above 0 */
     WORKBOOK_REFUSED_ENTRY = 14,    /* back: an entry that stands in the log and is sound */
@@ -93,13 +101,18 @@ enum workbook_number {
     WORKBOOK_SHEET_MARK = 22,      /* mark known */
     WORKBOOK_SHEET_ORDER = 23,     /* order of the records; AR seen at the end */
     WORKBOOK_SHEET_LENGTH = 24,    /* length right */
-    WORKBOOK_SHEET_CONSTANT = 25,  /* KI: tag and index */
-    WORKBOOK_SHEET_MEMORY = 26,    /* slots, kinds and words reach; state and answer words */
+    WORKBOOK_SHEET_CONSTANT = 25,  /* KI: tag and index; a class's word 0 or 1 */
+    WORKBOOK_SHEET_MEMORY = 26,    /* slots, kinds and words reach; state and answer words;
+                                      the length of handlers fits its answer word */
     WORKBOOK_SHEET_ARGUMENTS = 27, /* arguments at most max_locals */
     /* DS, after 24: a method descriptor of JVMS 4.3.3, in modified UTF-8. AR of
        a sheet with DS, after 27: as many words as its parameters take, two for
        a long or a double. */
     WORKBOOK_SHEET_DESCRIPTOR = 31,
+    /* EX, after 24: a body of 8 bytes; start below end; start and handler inside
+       the code, end at most its length; catch type 0 or the index of a class, that
+       is of a KI with tag 7. */
+    WORKBOOK_SHEET_HANDLER = 33,
 
     /* The method returns. Answer word 0 is the value, word 1 is 0; of a long
        and a double word 0 is the low word, word 1 the high word; of void both
@@ -121,17 +134,22 @@ enum workbook_number {
  * first. A host compares it with WORKBOOK_VERSION before its first call: parts,
  * words and numbers are those of one version. Version 1 brought the return type:
  * the record DS, the seventh state word, and the numbers 31 and 32. Version 2, the
- * page of opcodes, changed no function.
+ * page of opcodes, changed no function. Version 3 brought exception tables: the
+ * record EX, tag 7 of KI, the part handlers of step, forward, run and presses, the
+ * third and fourth answer word of a load, and the number 33.
  */
 uint32_t workbook_version(void);
 
 /*
  * Loads a sheet. Accepted: 0; kinds and words are written over their length,
- * the first max_locals + max_stack slots, the seven state words, and answer
- * words 0 and 1: the offset of the code's first byte in the sheet, and its
- * length. Answer words 2 and 3 stay. Refused: 21 to 27 or 31, and nothing at all
- * is written. Too few state or answer words belong to 26: the sheet's own
- * numbers come first.
+ * the first max_locals + max_stack slots, the seven state words, and four answer
+ * words: the offset of the code's first byte in the sheet, its length, the offset
+ * of the handlers' first byte, and their length in bytes. That is the part from
+ * the first EX record's mark to the end of the last; without EX records it is
+ * empty and lies where AR begins. Refused: 21 to 27, 31 or 33, and nothing at all
+ * is written. Too few state or answer words belong to 26, and so do handlers of
+ * 2 to the 32nd bytes or more, whose length answer word 3 could not hold: the
+ * sheet's own numbers come first.
  */
 uint32_t workbook_load(
     const uint8_t *sheet, size_t sheet_len,
@@ -145,6 +163,12 @@ uint32_t workbook_load(
  * In the functions below fewer than seven state words or four answer words are
  * refused with 1, before everything else, and nothing is written. A state with
  * a max_stack or max_locals word above 65,535 is refused by question 1.
+ *
+ * IDIV, IREM, LDIV and LREM by 0 throw an ArithmeticException. The first entry of
+ * handlers with start <= pc < end, and with catch type 0 or kind 7 and word 1 at
+ * that index of the pool, catches it. That is an ordinary step, to the handler,
+ * with depth 1 and the word 1 in the lowest place of the operand stack. Where no
+ * entry catches it, it is 110.
  */
 
 /*
@@ -156,6 +180,7 @@ uint32_t workbook_step(
     const uint8_t *code, size_t code_len,
     const uint8_t *kinds, size_t kinds_len,
     const uint32_t *words, size_t words_len,
+    const uint8_t *handlers, size_t handlers_len,
     uint32_t *slots, size_t slots_len,
     uint32_t *state, size_t state_len,
     uint32_t *answer, size_t answer_len);
@@ -168,6 +193,7 @@ uint32_t workbook_forward(
     const uint8_t *code, size_t code_len,
     const uint8_t *kinds, size_t kinds_len,
     const uint32_t *words, size_t words_len,
+    const uint8_t *handlers, size_t handlers_len,
     uint32_t *slots, size_t slots_len,
     uint32_t *log, size_t log_len,
     uint32_t *state, size_t state_len,
@@ -176,7 +202,8 @@ uint32_t workbook_forward(
 /*
  * A press of back. Granted: 0; the old words go into slots, pc and depth are
  * restored, count falls by one, and no log word changes. Refused: 1 to 3, 13 or
- * 14, and nothing is written. There are no answer words.
+ * 14, and nothing is written. There are no answer words, and no handlers: a step
+ * that was caught is taken back like any other.
  */
 uint32_t workbook_back(
     const uint8_t *code, size_t code_len,
@@ -197,6 +224,7 @@ uint32_t workbook_run(
     const uint8_t *code, size_t code_len,
     const uint8_t *kinds, size_t kinds_len,
     const uint32_t *words, size_t words_len,
+    const uint8_t *handlers, size_t handlers_len,
     uint32_t *slots, size_t slots_len,
     uint32_t *state, size_t state_len,
     uint32_t *answer, size_t answer_len,
@@ -214,6 +242,7 @@ uint32_t workbook_presses(
     const uint8_t *code, size_t code_len,
     const uint8_t *kinds, size_t kinds_len,
     const uint32_t *words, size_t words_len,
+    const uint8_t *handlers, size_t handlers_len,
     uint32_t *slots, size_t slots_len,
     uint32_t *log, size_t log_len,
     uint32_t *state, size_t state_len,

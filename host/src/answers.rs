@@ -78,7 +78,7 @@ impl fmt::Display for Value {
 #[must_use = "a press may be refused, and then nothing has changed"]
 #[non_exhaustive]
 pub enum Answer {
-    /// The step or the press was made.
+    /// The step or the press was made; so is a step to the handler that catches an exception.
     Granted,
     /// The method returns here. Nothing was changed.
     Return(Value),
@@ -144,7 +144,7 @@ impl fmt::Display for End {
 /// // NOP, GOTO to the NOP: a method that does not end.
 /// let sheet = b"LM\x00\x04\x00\x00\x00\x00CD\x00\x04\x00\xA7\xFF\xFFAR\x00\x00";
 /// let mut loaded = load(sheet, &mut [], &mut [], &mut [])?;
-/// let parts = Parts { code: &sheet[loaded.code], kinds: &[], words: &[] };
+/// let parts = Parts { code: &sheet[loaded.code], kinds: &[], words: &[], handlers: &[] };
 /// let Ran { end, steps, .. } = run(parts, &mut [], &mut loaded.state, 1_001);
 /// assert_eq!((end, steps, loaded.state.pc), (End::Stopped, 1_001, 1));
 /// # Ok::<(), workbook_host::Refusal>(())

@@ -84,8 +84,8 @@ impl State {
     }
 }
 
-/// What a step reads and never writes: the code and the constant pool. Any slices will do; what
-/// does not fit is refused.
+/// What a step reads and never writes: the code, the constant pool and the exception table. Any
+/// slices will do; what does not fit is refused.
 ///
 /// ```
 /// use workbook_host::{load, step, Answer, Parts};
@@ -94,19 +94,23 @@ impl State {
 /// let sheet = b"LM\x00\x04\x00\x02\x00\x00CD\x00\x04\x06\x07\x60\xACAR\x00\x00";
 /// let (mut slots, mut kinds, mut words) = ([0; 2], [], []);
 /// let mut loaded = load(sheet, &mut slots, &mut kinds, &mut words)?;
-/// let parts = Parts { code: &sheet[loaded.code], kinds: &kinds, words: &words };
+/// let (code, handlers) = (&sheet[loaded.code], &sheet[loaded.handlers]);
+/// let parts = Parts { code, kinds: &kinds, words: &words, handlers };
 /// assert_eq!(step(parts, &mut slots, &mut loaded.state), Answer::Granted);
 /// assert_eq!((loaded.state.pc, loaded.state.depth, slots), (1, 1, [3, 0]));
 /// # Ok::<(), workbook_host::Refusal>(())
 /// ```
 #[derive(Clone, Copy, Debug)]
 pub struct Parts<'a> {
-    /// The part of the sheet that the load handed back.
+    /// The part of the sheet that the load handed back as the code.
     pub code: &'a [u8],
     /// The constant pool's tags, by index.
     pub kinds: &'a [u8],
     /// The constant pool's words, by index.
     pub words: &'a [u32],
+    /// The part of the sheet that the load handed back as the exception table, 12 bytes an entry.
+    /// [`back`] does not look at it.
+    pub handlers: &'a [u8],
 }
 
 /// What an accepted load gives.
@@ -119,6 +123,8 @@ pub struct Parts<'a> {
 /// let mut slots = [9; 2];
 /// let loaded = load(sheet, &mut slots, &mut [], &mut [])?;
 /// assert_eq!(sheet[loaded.code], [0xB1]);
+/// // There are no handlers: the empty part before the arguments.
+/// assert_eq!(loaded.handlers, 13..13);
 /// // The argument; what lies beyond the frame is left.
 /// assert_eq!(slots, [5, 9]);
 /// assert_eq!(load(sheet, &mut [], &mut [], &mut []), Err(Refusal::SHEET_MEMORY));
@@ -131,6 +137,8 @@ pub struct Loaded {
     pub state: State,
     /// Where the code lies in the sheet.
     pub code: Range<usize>,
+    /// Where the exception table lies in the sheet: its `EX` records, 12 bytes each.
+    pub handlers: Range<usize>,
 }
 
 /// A press of one of the two buttons.
@@ -141,7 +149,7 @@ pub struct Loaded {
 /// // NOP, RETURN, and a log of one entry.
 /// let sheet = b"LM\x00\x04\x00\x00\x00\x00CD\x00\x02\x00\xB1AR\x00\x00";
 /// let mut loaded = load(sheet, &mut [], &mut [], &mut [])?;
-/// let parts = Parts { code: &sheet[loaded.code], kinds: &[], words: &[] };
+/// let parts = Parts { code: &sheet[loaded.code], kinds: &[], words: &[], handlers: &[] };
 /// let mut log = [0; LOG_WORDS];
 /// let list = [Press::Back, Press::Forward, Press::Back];
 /// let answers = presses(parts, &mut [], &mut log, &mut loaded.state, &list);
@@ -160,7 +168,7 @@ pub enum Press {
 ///
 /// # Errors
 ///
-/// The refusal, from 21 to 27 or 31. A refused load writes nothing.
+/// The refusal, from 21 to 27, 31 or 33. A refused load writes nothing.
 pub fn load(
     sheet: &[u8],
     slots: &mut [u32],
@@ -171,10 +179,11 @@ pub fn load(
     let (mut state, mut place) = ([0; STATE_WORDS], [0; 4]);
     match ffi::load(sheet, slots, kinds, words, &mut state, &mut place) {
         0 => {
-            let (start, length) = (place[0] as usize, place[1] as usize);
+            let [code, code_length, handlers, handlers_length] = place.map(|word| word as usize);
             Ok(Loaded {
                 state: State::from_words(state),
-                code: start..start + length,
+                code: code..code + code_length,
+                handlers: handlers..handlers + handlers_length,
             })
         }
         number => Err(refusal(number)),
@@ -184,24 +193,37 @@ pub fn load(
 /// One step without history. An ordinary step gives count 0: it ends a walk, because the log no
 /// longer says how to go back.
 pub fn step(parts: Parts, slots: &mut [u32], state: &mut State) -> Answer {
-    let Parts { code, kinds, words } = parts;
+    let Parts {
+        code,
+        kinds,
+        words,
+        handlers,
+    } = parts;
     let mut value = [0; 4];
-    let number = state.lend(|state| ffi::step(code, kinds, words, slots, state, &mut value));
+    let number =
+        state.lend(|state| ffi::step(code, kinds, words, handlers, slots, state, &mut value));
     answer(number, value[0], value[1])
 }
 
 /// One step with history: the log says how to take it back.
 pub fn forward(parts: Parts, slots: &mut [u32], log: &mut [u32], state: &mut State) -> Answer {
-    let Parts { code, kinds, words } = parts;
+    let Parts {
+        code,
+        kinds,
+        words,
+        handlers,
+    } = parts;
     let mut value = [0; 4];
-    let number =
-        state.lend(|state| ffi::forward(code, kinds, words, slots, log, state, &mut value));
+    let number = state
+        .lend(|state| ffi::forward(code, kinds, words, handlers, slots, log, state, &mut value));
     answer(number, value[0], value[1])
 }
 
 /// Takes the last step back. The answer is granted or refused.
 pub fn back(parts: Parts, slots: &mut [u32], log: &[u32], state: &mut State) -> Answer {
-    let Parts { code, kinds, words } = parts;
+    let Parts {
+        code, kinds, words, ..
+    } = parts;
     let number = state.lend(|state| ffi::back(code, kinds, words, slots, log, state));
     answer(number, 0, 0)
 }
@@ -212,10 +234,25 @@ pub fn back(parts: Parts, slots: &mut [u32], log: &[u32], state: &mut State) -> 
 /// first three questions refuse (memory, pc, depth) leaves the state as it was. In a method that
 /// does not end, a run takes as long as its budget says.
 pub fn run(parts: Parts, slots: &mut [u32], state: &mut State, budget: u64) -> Ran {
-    let Parts { code, kinds, words } = parts;
+    let Parts {
+        code,
+        kinds,
+        words,
+        handlers,
+    } = parts;
     let mut report = [0; 4];
-    let number =
-        state.lend(|state| ffi::run(code, kinds, words, slots, state, &mut report, budget));
+    let number = state.lend(|state| {
+        ffi::run(
+            code,
+            kinds,
+            words,
+            handlers,
+            slots,
+            state,
+            &mut report,
+            budget,
+        )
+    });
     let [low, high, steps_low, steps_high] = report;
     Ran {
         end: end(number, low, high),
@@ -239,9 +276,17 @@ pub fn presses(
         .collect();
     let mut answers = vec![[0; 3]; list.len()];
     let room = answers.as_flattened_mut();
-    let Parts { code, kinds, words } = parts;
-    let number =
-        state.lend(|state| ffi::presses(code, kinds, words, slots, log, state, &bytes, room));
+    let Parts {
+        code,
+        kinds,
+        words,
+        handlers,
+    } = parts;
+    let number = state.lend(|state| {
+        ffi::presses(
+            code, kinds, words, handlers, slots, log, state, &bytes, room,
+        )
+    });
     // The only other number is for too few words of state or answers, and there are enough of both.
     assert_eq!(
         number, 0,

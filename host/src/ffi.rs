@@ -14,6 +14,9 @@
 //!
 //! A length is counted in elements and not in bytes, as `len` counts it.
 
+// The library is lent up to nine parts, and these functions add nothing to it.
+#![allow(clippy::too_many_arguments)]
+
 extern "C" {
     fn workbook_version() -> u32;
 
@@ -39,6 +42,8 @@ extern "C" {
         kinds_len: usize,
         words: *const u32,
         words_len: usize,
+        handlers: *const u8,
+        handlers_len: usize,
         slots: *mut u32,
         slots_len: usize,
         state: *mut u32,
@@ -54,6 +59,8 @@ extern "C" {
         kinds_len: usize,
         words: *const u32,
         words_len: usize,
+        handlers: *const u8,
+        handlers_len: usize,
         slots: *mut u32,
         slots_len: usize,
         log: *mut u32,
@@ -86,6 +93,8 @@ extern "C" {
         kinds_len: usize,
         words: *const u32,
         words_len: usize,
+        handlers: *const u8,
+        handlers_len: usize,
         slots: *mut u32,
         slots_len: usize,
         state: *mut u32,
@@ -102,6 +111,8 @@ extern "C" {
         kinds_len: usize,
         words: *const u32,
         words_len: usize,
+        handlers: *const u8,
+        handlers_len: usize,
         slots: *mut u32,
         slots_len: usize,
         log: *mut u32,
@@ -157,13 +168,14 @@ pub fn step(
     code: &[u8],
     kinds: &[u8],
     words: &[u32],
+    handlers: &[u8],
     slots: &mut [u32],
     state: &mut [u32],
     answer: &mut [u32],
 ) -> u32 {
-    // SAFETY: each pair is the pointer and the length of one slice. Code, kinds and words are only
-    // read; slots, state and answer are `&mut`, so they overlap nothing. The library answers for
-    // every length and every word, also for a state that no load gave.
+    // SAFETY: each pair is the pointer and the length of one slice. Code, kinds, words and handlers
+    // are only read; slots, state and answer are `&mut`, so they overlap nothing. The library
+    // answers for every length and every word, also for a state and for handlers that no load gave.
     unsafe {
         workbook_step(
             code.as_ptr(),
@@ -172,6 +184,8 @@ pub fn step(
             kinds.len(),
             words.as_ptr(),
             words.len(),
+            handlers.as_ptr(),
+            handlers.len(),
             slots.as_mut_ptr(),
             slots.len(),
             state.as_mut_ptr(),
@@ -187,6 +201,7 @@ pub fn forward(
     code: &[u8],
     kinds: &[u8],
     words: &[u32],
+    handlers: &[u8],
     slots: &mut [u32],
     log: &mut [u32],
     state: &mut [u32],
@@ -202,6 +217,8 @@ pub fn forward(
             kinds.len(),
             words.as_ptr(),
             words.len(),
+            handlers.as_ptr(),
+            handlers.len(),
             slots.as_mut_ptr(),
             slots.len(),
             log.as_mut_ptr(),
@@ -249,6 +266,7 @@ pub fn run(
     code: &[u8],
     kinds: &[u8],
     words: &[u32],
+    handlers: &[u8],
     slots: &mut [u32],
     state: &mut [u32],
     answer: &mut [u32],
@@ -263,6 +281,8 @@ pub fn run(
             kinds.len(),
             words.as_ptr(),
             words.len(),
+            handlers.as_ptr(),
+            handlers.len(),
             slots.as_mut_ptr(),
             slots.len(),
             state.as_mut_ptr(),
@@ -275,21 +295,20 @@ pub fn run(
 }
 
 /// `workbook_presses` on lent slices of any lengths.
-// The library lends eight parts here, and this function adds nothing to it.
-#[allow(clippy::too_many_arguments)]
 pub fn presses(
     code: &[u8],
     kinds: &[u8],
     words: &[u32],
+    handlers: &[u8],
     slots: &mut [u32],
     log: &mut [u32],
     state: &mut [u32],
     presses: &[u8],
     answers: &mut [u32],
 ) -> u32 {
-    // SAFETY: each pair is the pointer and the length of one slice. Code, kinds, words and presses
-    // are only read; slots, log, state and answers are `&mut`, so they overlap nothing. Answers
-    // that are too short for the presses are met by number 1.
+    // SAFETY: each pair is the pointer and the length of one slice. Code, kinds, words, handlers and
+    // presses are only read; slots, log, state and answers are `&mut`, so they overlap nothing.
+    // Answers that are too short for the presses are met by number 1.
     unsafe {
         workbook_presses(
             code.as_ptr(),
@@ -298,6 +317,8 @@ pub fn presses(
             kinds.len(),
             words.as_ptr(),
             words.len(),
+            handlers.as_ptr(),
+            handlers.len(),
             slots.as_mut_ptr(),
             slots.len(),
             log.as_mut_ptr(),

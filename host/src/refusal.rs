@@ -59,7 +59,8 @@ macro_rules! refusals {
     };
 }
 
-// A step, a press or a run; then a sheet; then what came with the return type, one of each.
+// A step, a press or a run; then a sheet; then what came with the return type, one of each; then
+// what came with exception tables.
 refusals! {
     LENT = 1: "The memory has too few slots for the method's locals and operand stack, \
                or its two parts for constants are not equally long or too long.";
@@ -81,14 +82,15 @@ refusals! {
     ENTRY = 14: "The log has no entry from which the last step can be taken back.";
 
     SHEET_CUT = 21: "The file ends in the middle of a record.";
-    SHEET_MARK = 22: "The file has a record whose mark is none of LM, DS, CD, KI and AR.";
-    SHEET_ORDER = 23: "The file's records are not LM, at most one DS, CD, any number of KI and AR, \
-                       in this order, or one is missing.";
+    SHEET_MARK = 22: "The file has a record whose mark is none of LM, DS, CD, KI, EX and AR.";
+    SHEET_ORDER = 23: "The file's records are not LM, at most one DS, CD, any number of KI, \
+                       any number of EX and AR, in this order, or one is missing.";
     SHEET_LENGTH = 24: "The file has a record of a wrong length: LM has 4 bytes, CD at least 1, \
                         KI 7 or 11, AR a multiple of 4.";
     SHEET_CONSTANT = 25: "The file has a constant whose tag does not suit its length, \
                           or whose index is 0, not above all indices before it, \
-                          or too high for a long or a double.";
+                          or too high for a long or a double, \
+                          or a class whose word is neither 0 nor 1.";
     SHEET_MEMORY = 26: "The lent memory is too small for the method in the file, \
                         or its two parts for constants are not equally long or too long.";
     SHEET_ARGUMENTS = 27: "The file has more argument words than max_locals.";
@@ -101,6 +103,12 @@ refusals! {
                        IRETURN is for boolean, byte, char, short and int, LRETURN for long, \
                        FRETURN for float, DRETURN for double, ARETURN for a reference, \
                        RETURN for void.";
+
+    SHEET_HANDLER = 33: "The file has an EX record that is no entry of an exception table: \
+                         it has 8 bytes, its start is below its end, \
+                         its start and its handler are offsets in the code, \
+                         its end is at most the code's length, \
+                         and its catch type is 0 or the index of a class.";
 }
 
 impl fmt::Display for Refusal {
@@ -122,7 +130,7 @@ mod tests {
 
     /// The numbers that the library gives.
     fn known() -> impl Iterator<Item = u32> {
-        (1..=14).chain(21..=27).chain(31..=32)
+        (1..=14).chain(21..=27).chain(31..=33)
     }
 
     #[test]
@@ -152,7 +160,7 @@ mod tests {
     fn each_refusal_has_its_own_sentence() {
         let unknown = refusal(99).sentence();
         let sentences: HashSet<_> = known().map(|number| refusal(number).sentence()).collect();
-        assert_eq!(sentences.len(), 23);
+        assert_eq!(sentences.len(), 24);
         assert!(!sentences.contains(unknown));
         for number in (1..=99).filter(|number| !known().any(|other| other == *number)) {
             assert_eq!(refusal(number).sentence(), unknown, "{number}");
@@ -199,6 +207,7 @@ mod tests {
             (27, "than max_locals"),
             (31, "parentheses"),
             (32, "IRETURN"),
+            (33, "catch type"),
         ];
         assert!(table.iter().map(|row| row.0).eq(known()));
         for (number, word) in table {

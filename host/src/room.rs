@@ -52,6 +52,8 @@ mod tests {
         let descriptor = b"DS\x00\x03()V";
         let int = b"KI\x00\x07\x00\x05\x03\0\0\0\0";
         let long = b"KI\x00\x0B\x00\x09\x05\0\0\0\0\0\0\0\0";
+        let class = b"KI\x00\x07\x00\x0B\x07\0\0\0\x01";
+        let handler = b"EX\x00\x08\x00\x00\x00\x01\x00\x00\x00\x0B";
         let room = |records: &[&[u8]]| {
             let Room { slots, pool } = Room::of(&records.concat());
             (slots, pool)
@@ -61,6 +63,8 @@ mod tests {
         assert_eq!(room(&[sizes, int]), (0x105, 6));
         assert_eq!(room(&[sizes, descriptor, int]), (0x105, 6));
         assert_eq!(room(&[sizes, int, long]), (0x105, 11));
+        // A class takes one index, and a handler nothing.
+        assert_eq!(room(&[sizes, int, long, class, handler]), (0x105, 12));
         // A record that is cut off counts for nothing.
         assert_eq!(room(&[sizes, int, &long[..14]]), (0x105, 6));
     }

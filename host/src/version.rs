@@ -6,7 +6,7 @@ use std::sync::OnceLock;
 /// The version of the library that this package was written for: the number of the last request
 /// that had landed, 0 before the first. The first call asks the library for its own, and ends the
 /// program where that is another.
-pub const VERSION: u32 = 2;
+pub const VERSION: u32 = 3;
 
 /// Asks once, and stands before every call: with another version the lent words would be read
 /// wrongly.
@@ -34,12 +34,21 @@ mod tests {
     }
 
     #[test]
+    fn the_header_has_the_version_of_this_package() {
+        let header = include_str!("../../include/workbook.h");
+        let line = format!("\n#define WORKBOOK_VERSION {VERSION}\n");
+        assert!(header.contains(&line), "{line}");
+    }
+
+    #[test]
     fn another_version_ends_with_a_message() {
-        let other = VERSION + 1;
-        let message = std::panic::catch_unwind(|| compare(other)).unwrap_err();
-        let message = message.downcast_ref::<String>().unwrap();
-        let found = format!("has version {other}, and");
-        assert!(message.contains(&found), "{message}");
-        assert!(message.contains("rt staticlib workbook"), "{message}");
+        // The one before, whose functions are lent other parts, and the one after.
+        for other in [VERSION - 1, VERSION + 1] {
+            let message = std::panic::catch_unwind(|| compare(other)).unwrap_err();
+            let message = message.downcast_ref::<String>().unwrap();
+            let found = format!("has version {other}, and");
+            assert!(message.contains(&found), "{message}");
+            assert!(message.contains("rt staticlib workbook"), "{message}");
+        }
     }
 }

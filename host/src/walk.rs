@@ -46,15 +46,16 @@ struct Method {
     code: Range<usize>,
     kinds: Vec<u8>,
     words: Vec<u32>,
+    handlers: Range<usize>,
 }
 
 impl Method {
     fn parts(&self) -> Parts<'_> {
-        let code = &self.sheet[self.code.clone()];
         Parts {
-            code,
+            code: &self.sheet[self.code.clone()],
             kinds: &self.kinds,
             words: &self.words,
+            handlers: &self.sheet[self.handlers.clone()],
         }
     }
 }
@@ -92,7 +93,8 @@ impl Walk {
     ///
     /// # Errors
     ///
-    /// The refusal of the sheet, from 21 to 27 or 31, but never 26: there is memory for every sheet.
+    /// The refusal of the sheet, from 21 to 27, 31 or 33. There is memory for every sheet, so 26 is
+    /// left for one whose exception table has 2 to the 32nd bytes or more.
     pub fn open(sheet: Vec<u8>) -> Result<Walk, Refusal> {
         Walk::open_logged(sheet, 0, true)
     }
@@ -117,6 +119,7 @@ impl Walk {
             code: loaded.code,
             kinds,
             words,
+            handlers: loaded.handlers,
         };
         let log = vec![Entry::default(); entries];
         Ok(Walk {

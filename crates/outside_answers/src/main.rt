@@ -9,6 +9,7 @@ use printing::print_number;
 use rules::Load;
 use rules::State;
 use sheet::code_of;
+use sheet::handlers_of;
 use sheet::load;
 
 // More methods than any file has, and more steps than any that ends takes.
@@ -17,8 +18,16 @@ const MOST: u64 = 1_000_000;
 const BUDGET: u64 = 10_000_000;
 
 // Runs a method from what a load left.
-fn run_method(code: &[u8], kinds: &[u8], words: &[u32], slots: &mut [u32], s: State, bits: bool) {
-    let ran = run(code, kinds, words, slots, s, BUDGET);
+fn run_method(
+    code: &[u8],
+    kinds: &[u8],
+    words: &[u32],
+    handlers: &[u8],
+    slots: &mut [u32],
+    s: State,
+    bits: bool,
+) {
+    let ran = run(code, kinds, words, handlers, slots, s, BUDGET);
     let end = ran.end;
     print_line(end, bits);
 }
@@ -34,14 +43,9 @@ fn run_sheet(sheet: &[u8], slots: &mut [u32], kinds: &mut [u8], words: &mut [u32
             print(b"\n");
         }
         Load::Accepted => {
-            run_method(
-                code_of(sheet, loaded),
-                kinds,
-                words,
-                slots,
-                loaded.state,
-                bits,
-            );
+            let code = code_of(sheet, loaded);
+            let handlers = handlers_of(sheet, loaded);
+            run_method(code, kinds, words, handlers, slots, loaded.state, bits);
         }
     }
 }

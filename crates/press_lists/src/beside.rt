@@ -7,6 +7,7 @@ use rules::End;
 use rules::Load;
 use rules::State;
 use sheet::code_of;
+use sheet::handlers_of;
 use sheet::load;
 
 // Whether two lists of words are the same.
@@ -52,12 +53,13 @@ fn run_loaded(
     code: &[u8],
     kinds: &[u8],
     words: &[u32],
+    handlers: &[u8],
     others: &mut [u32],
     begin: State,
     slots: &[u32],
     s: State,
 ) {
-    let ran = run(code, kinds, words, others, begin, s.count);
+    let ran = run(code, kinds, words, handlers, others, begin, s.count);
     print(b"run");
     print_number(s.count);
     print_number(ran.steps);
@@ -97,5 +99,6 @@ pub(crate) fn run_beside(
         return;
     };
     let code = code_of(sheet, loaded);
-    run_loaded(code, kinds, words, others, loaded.state, slots, s);
+    let handlers = handlers_of(sheet, loaded);
+    run_loaded(code, kinds, words, handlers, others, loaded.state, slots, s);
 }

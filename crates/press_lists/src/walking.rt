@@ -17,6 +17,7 @@ use rules::Load;
 use rules::Loaded;
 use rules::State;
 use sheet::code_of;
+use sheet::handlers_of;
 use sheet::load;
 
 // Prints what a list left.
@@ -54,13 +55,24 @@ fn press_loaded(
     code: &[u8],
     kinds: &[u8],
     words: &[u32],
+    handlers: &[u8],
     slots: &mut [u32],
     log: &mut [u32],
     begin: State,
     bytes: &[u8],
     answers: &mut [u32],
 ) -> Replay {
-    let replay = presses(code, kinds, words, slots, log, begin, bytes, answers);
+    let replay = presses(
+        code,
+        kinds,
+        words,
+        handlers,
+        slots,
+        log,
+        begin,
+        bytes,
+        answers,
+    );
     print_replay(replay.number, bytes.len(), answers);
     let left = replay.state;
     print_left(left, slots, log, answers);
@@ -96,7 +108,18 @@ fn press_from(
     };
     let begin = moved(loaded.state, head.pc, head.depth, head.count);
     let code = code_of(sheet, loaded);
-    let replay = press_loaded(code, kinds, words, slots, log, begin, bytes, answers);
+    let handlers = handlers_of(sheet, loaded);
+    let replay = press_loaded(
+        code,
+        kinds,
+        words,
+        handlers,
+        slots,
+        log,
+        begin,
+        bytes,
+        answers,
+    );
     let left = replay.state;
     run_beside(sheet, kinds, words, others, slots, left, head);
     counted(replay.number, bytes, answers)

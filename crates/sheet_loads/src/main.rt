@@ -24,6 +24,8 @@ fn load_sheet(sheet: &[u8], slots: &mut [u32], kinds: &mut [u8], words: &mut [u3
     print_sum_of_words(b" slots", slots);
     let code = sheet::code_of(sheet, loaded);
     print_sum_of_bytes(b" code", code);
+    let handlers = sheet::handlers_of(sheet, loaded);
+    print_sum_of_bytes(b" handlers", handlers);
     print(b"\n");
 }
 

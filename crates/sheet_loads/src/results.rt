@@ -14,6 +14,8 @@ pub(crate) fn print_load(loaded: Loaded) {
             print_number(loaded.state.max_locals as u64);
             print_number(loaded.code as u64);
             print_number(loaded.code_length as u64);
+            print_number(loaded.handlers as u64);
+            print_number(loaded.handlers_length as u64);
         }
         Load::Refused(n) => {
             print(b" refused");

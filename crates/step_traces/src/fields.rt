@@ -3,7 +3,7 @@ use rules::State;
 ghost use Prim.Native.Nat.{_+_, _*_, _≤_};
 
 // A line, its line feed included.
-pub(crate) type Line = [u8; 412];
+pub(crate) type Line = [u8; 496];
 
 // A sample: the parts that are lent, each with its length, and the state to start from.
 pub(crate) struct Sample {
@@ -13,6 +13,8 @@ pub(crate) struct Sample {
     pub kinds_length: usize,
     pub words: [u32; 8],
     pub words_length: usize,
+    pub handlers: [u8; 40],
+    pub handlers_length: usize,
     pub slots: [u32; 12],
     pub slots_length: usize,
     pub state: State,
@@ -31,7 +33,7 @@ fn digit(byte: u8) -> u64 {
 
 // The number in some columns, at most 16.
 fn number(line: &Line, start: usize, columns: usize) -> u64
-    requires { ⌜ start + columns ≤ 412 ⌝ }
+    requires { ⌜ start + columns ≤ 496 ⌝ }
 {
     let mut value: u64 = 0;
     let mut i = 0;
@@ -44,21 +46,21 @@ fn number(line: &Line, start: usize, columns: usize) -> u64
 
 // The number in 4 columns.
 fn number16(line: &Line, start: usize) -> u16
-    requires { ⌜ start + 4 ≤ 412 ⌝ }
+    requires { ⌜ start + 4 ≤ 496 ⌝ }
 {
     (number(line, start, 4) % 0x10000) as u16
 }
 
 // The number in 8 columns.
 fn number32(line: &Line, start: usize) -> u32
-    requires { ⌜ start + 8 ≤ 412 ⌝ }
+    requires { ⌜ start + 8 ≤ 496 ⌝ }
 {
     (number(line, start, 8) % 0x1_0000_0000) as u32
 }
 
 // The number in 2 columns.
 fn number8(line: &Line, start: usize) -> u8
-    requires { ⌜ start + 2 ≤ 412 ⌝ }
+    requires { ⌜ start + 2 ≤ 496 ⌝ }
 {
     (number(line, start, 2) % 256) as u8
 }
@@ -96,12 +98,23 @@ fn words_of(line: &Line) -> [u32; 8] {
     words
 }
 
+// The handlers' bytes.
+fn handlers_of(line: &Line) -> [u8; 40] {
+    let mut handlers = [0; 40];
+    let mut i = 0;
+    while i < 40 {
+        handlers[i] = number8(line, 262 + 2 * i);
+        i += 1;
+    }
+    handlers
+}
+
 // The slots.
 fn slots_of(line: &Line) -> [u32; 12] {
     let mut slots = [0; 12];
     let mut i = 0;
     while i < 12 {
-        slots[i] = number32(line, 261 + 8 * i);
+        slots[i] = number32(line, 345 + 8 * i);
         i += 1;
     }
     slots
@@ -116,15 +129,17 @@ pub(crate) fn sample_of(line: &Line) -> Sample {
         kinds_length: number(line, 173, 1) as usize,
         words: words_of(line),
         words_length: number(line, 192, 1) as usize,
+        handlers: handlers_of(line),
+        handlers_length: number(line, 259, 2) as usize,
         slots: slots_of(line),
-        slots_length: number(line, 259, 1) as usize,
+        slots_length: number(line, 343, 1) as usize,
         state: State {
-            max_stack: number16(line, 358),
-            max_locals: number16(line, 363),
-            pc: number32(line, 368),
-            depth: number32(line, 377),
-            count: number(line, 386, 16),
-            return_type: number32(line, 403),
+            max_stack: number16(line, 442),
+            max_locals: number16(line, 447),
+            pc: number32(line, 452),
+            depth: number32(line, 461),
+            count: number(line, 470, 16),
+            return_type: number32(line, 487),
         },
     }
 }

@@ -21,7 +21,7 @@ struct Input {
 
 // Reads a line. Blanks stand where the input ends early.
 fn read_line() -> Input {
-    let mut line = [b' '; 412];
+    let mut line = [b' '; 496];
     let count = io::read_full(0, &mut line);
     Input {
         line: line,

@@ -10,25 +10,26 @@ use rules::Decision;
 use rules::Load;
 use rules::State;
 use sheet::code_of;
+use sheet::handlers_of;
 use sheet::load;
 
 // The most steps that are walked.
 const MOST: u64 = 1600;
 
 // Prints a line for each ordinary step from a state on, and how the walk ended.
-fn walk(code: &[u8], kinds: &[u8], words: &[u32], slots: &mut [u32], s: State) {
+fn walk(code: &[u8], kinds: &[u8], words: &[u32], handlers: &[u8], slots: &mut [u32], s: State) {
     print_header();
     let mut t = s;
     let mut steps = 0;
     while steps < MOST {
-        let decision = decide(code, kinds, words, slots, t);
+        let decision = decide(code, kinds, words, handlers, slots, t);
         let Decision::Ordinary(_) = decision else {
             print_decision(decision);
             print(b"\n");
             return;
         };
         print_step(steps, code, slots, t);
-        let stepped = step(code, kinds, words, slots, t);
+        let stepped = step(code, kinds, words, handlers, slots, t);
         t = stepped.state;
         steps += 1;
     }
@@ -46,7 +47,9 @@ fn walk_sheet(sheet: &[u8], slots: &mut [u32], kinds: &mut [u8], words: &mut [u3
             print(b"\n");
         }
         Load::Accepted => {
-            walk(code_of(sheet, loaded), kinds, words, slots, loaded.state);
+            let code = code_of(sheet, loaded);
+            let handlers = handlers_of(sheet, loaded);
+            walk(code, kinds, words, handlers, slots, loaded.state);
         }
     }
 }

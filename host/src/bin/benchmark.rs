@@ -135,8 +135,13 @@ fn method(l: &Loop, turns: u32) -> (Parts<'static>, State, Vec<u32>) {
     let (mut slots, kinds, words) = (vec![0; 16], vec![0; 8].leak(), vec![0; 8].leak());
     let loaded = load(&sheet, &mut slots, kinds, words).expect("a sheet");
     slots[1] = turns;
-    let code = &sheet.leak()[loaded.code];
-    let parts = Parts { code, kinds, words };
+    let sheet = sheet.leak();
+    let parts = Parts {
+        code: &sheet[loaded.code],
+        kinds,
+        words,
+        handlers: &sheet[loaded.handlers],
+    };
     (parts, loaded.state, slots)
 }
 

@@ -43,6 +43,12 @@ impl<T: Copy + PartialEq + UpperHex> Lent<T> {
         [&self.all[..self.start], &self.all[self.end..]]
     }
 
+    /// The same guards around another part.
+    pub fn with(&self, part: &[T]) -> Lent<T> {
+        let [before, after] = self.guards();
+        Lent::between(before, part, after)
+    }
+
     /// Says at which place two parts differ first. Places before the part count from below 0.
     fn difference(&self, name: &str, expected: &Lent<T>) -> Option<String> {
         let length = self.len();
@@ -68,6 +74,8 @@ pub struct Memory {
     pub code: Range<usize>,
     pub kinds: Lent<u8>,
     pub words: Lent<u32>,
+    /// The handlers, of their own, so that they have guards too.
+    pub handlers: Lent<u8>,
     pub slots: Lent<u32>,
     pub log: Lent<u32>,
     pub state: Lent<u32>,
@@ -82,11 +90,16 @@ impl Memory {
         &self.sheet.part()[self.code.clone()]
     }
 
-    /// Takes for the code what an accepted load has answered.
-    pub fn take_code(&mut self) {
-        let place = self.answer.part();
-        let (start, length) = (place[0] as usize, place[1] as usize);
-        self.code = start..start + length;
+    /// Takes for the code and the handlers what an accepted load has answered.
+    pub fn take_parts(&mut self) {
+        let answer = self.answer.part();
+        let part = |word: usize| {
+            let (start, length) = (answer[word] as usize, answer[word + 1] as usize);
+            start..start + length
+        };
+        let (code, handlers) = (part(0), part(2));
+        self.handlers = self.handlers.with(&self.sheet.part()[handlers]);
+        self.code = code;
     }
 
     /// The first place, in a part or in a guard, where this memory is not what it should be.
@@ -95,6 +108,7 @@ impl Memory {
             .difference("sheet", &expected.sheet)
             .or_else(|| self.kinds.difference("kinds", &expected.kinds))
             .or_else(|| self.words.difference("words", &expected.words))
+            .or_else(|| self.handlers.difference("handlers", &expected.handlers))
             .or_else(|| self.slots.difference("slots", &expected.slots))
             .or_else(|| self.log.difference("log", &expected.log))
             .or_else(|| self.state.difference("state", &expected.state))
@@ -130,19 +144,22 @@ impl Function {
         let sheet = memory.sheet.part();
         let code = &sheet[memory.code.clone()];
         let (kinds, words) = (memory.kinds.part_mut(), memory.words.part_mut());
+        let handlers = memory.handlers.part();
         let (slots, log) = (memory.slots.part_mut(), memory.log.part_mut());
         let (state, answer) = (memory.state.part_mut(), memory.answer.part_mut());
         let (presses, answers) = (memory.presses.part(), memory.answers.part_mut());
         let budget = memory.budget;
         match self {
             Function::Load => ffi::load(sheet, slots, kinds, words, state, answer),
-            Function::Step => ffi::step(code, kinds, words, slots, state, answer),
-            Function::Forward => ffi::forward(code, kinds, words, slots, log, state, answer),
-            Function::Back => ffi::back(code, kinds, words, slots, log, state),
-            Function::Run => ffi::run(code, kinds, words, slots, state, answer, budget),
-            Function::Presses => {
-                ffi::presses(code, kinds, words, slots, log, state, presses, answers)
+            Function::Step => ffi::step(code, kinds, words, handlers, slots, state, answer),
+            Function::Forward => {
+                ffi::forward(code, kinds, words, handlers, slots, log, state, answer)
             }
+            Function::Back => ffi::back(code, kinds, words, slots, log, state),
+            Function::Run => ffi::run(code, kinds, words, handlers, slots, state, answer, budget),
+            Function::Presses => ffi::presses(
+                code, kinds, words, handlers, slots, log, state, presses, answers,
+            ),
         }
     }
 }

@@ -35,6 +35,8 @@ mod codes;
 mod counts;
 #[path = "fuzz/descriptors.rs"]
 mod descriptors;
+#[path = "fuzz/handlers.rs"]
+mod handlers;
 #[path = "fuzz/lent.rs"]
 mod lent;
 #[path = "fuzz/numbers.rs"]
@@ -138,7 +140,7 @@ impl Fuzz {
                 return Ok(());
             }
             if number == 0 {
-                memory.take_code();
+                memory.take_parts();
                 let presses = 1 + random.below((memory.log.len() / 10).min(30) + 1);
                 self.there_and_back(&memory, presses)?;
             }

@@ -7,10 +7,10 @@ use Rattle.walksheet.proofs.walk.Statement.{statement}
 use Rattle.walksheet.proofs.walk.Tie as tie
 
 abbrev Inv-loop : tie.InvT-loop
-Inv-loop code kinds words slots₀ t₀ steps₀ t10 t11 slots t steps = length slots ≡ length slots₀
+Inv-loop code kinds words handlers slots₀ t₀ steps₀ t10 t11 slots t steps = length slots ≡ length slots₀
 
 abbrev μ-loop : tie.MeasureT-loop
-μ-loop code kinds words slots₀ t₀ steps₀ t10 t11 slots t steps = 1600 - steps
+μ-loop code kinds words handlers slots₀ t₀ steps₀ t10 t11 slots t steps = 1600 - steps
 
 print-header-requires : tie.Need-print-header-requires Inv-loop μ-loop
 print-header-requires c κs = search needs

@@ -62,6 +62,7 @@ fn with_parts<T>(
         code: &memory.sheet.part()[memory.code.clone()],
         kinds: memory.kinds.part(),
         words: memory.words.part(),
+        handlers: memory.handlers.part(),
     };
     let mut state = state(memory.state.part());
     let (slots, log) = (memory.slots.part_mut(), memory.log.part_mut());
@@ -116,10 +117,11 @@ fn load(memory: &mut Memory) -> u32 {
     let (kinds, words) = (memory.kinds.part_mut(), memory.words.part_mut());
     let slots = memory.slots.part_mut();
     match sheet::load(memory.sheet.part(), slots, kinds, words) {
-        Ok((state, code)) => {
-            stand(memory, &state);
-            let place = [code.start as u32, code.len() as u32];
-            memory.answer.part_mut()[..2].copy_from_slice(&place);
+        Ok(loaded) => {
+            stand(memory, &loaded.state);
+            let parts = [loaded.code, loaded.handlers];
+            let places = parts.map(|part| [part.start as u32, part.len() as u32]);
+            memory.answer.part_mut()[..4].copy_from_slice(places.as_flattened());
             0
         }
         Err(number) => number,

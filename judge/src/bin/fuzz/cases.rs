@@ -2,6 +2,7 @@
 
 use super::boundary;
 use super::codes::{code, long_code, shape, start};
+use super::handlers::{self, Around};
 use super::memory::{Function, Lent, Memory};
 use super::random::Random;
 use super::sheets::sheet;
@@ -61,11 +62,14 @@ fn lent(random: &mut Random, sheet: &[u8], needs: [usize; 2], large: bool, bare:
     let (words, slots, log) = (part(words), part(slots), part(log));
     let (state, answer, answers) = (part(state), part(answer), part(0));
     let kinds = random.bytes(kinds);
+    let handlers = random.below(15);
+    let handlers = random.bytes(handlers);
     Memory {
         sheet: Lent::guarded(sheet, random, bare),
         code: 0..sheet.len(),
         kinds: Lent::guarded(&kinds, random, bare),
         words,
+        handlers: Lent::guarded(&handlers, random, bare),
         slots,
         log,
         state,
@@ -116,6 +120,7 @@ pub fn standing(random: &mut Random, bare: bool) -> Memory {
     for (kind, from) in memory.kinds.part_mut().iter_mut().zip(&shape.kinds) {
         *kind = *from;
     }
+    set_classes(random, &mut memory);
     let sizes = [shape.max_stack as u32, shape.max_locals as u32];
     for (word, size) in memory.state.part_mut().iter_mut().zip(sizes) {
         *word = size;
@@ -123,7 +128,35 @@ pub fn standing(random: &mut Random, bare: bool) -> Memory {
     move_to(random, &mut memory);
     set_count(random, &mut memory);
     set_return_type(random, &mut memory);
+    if shape.throws || random.once_in(8) {
+        set_handlers(random, &mut memory, large);
+    }
     memory
+}
+
+/// Words for the classes of a pool, mostly those that a load gives, and the same for some others, which are none.
+fn set_classes(random: &mut Random, memory: &mut Memory) {
+    let kinds = memory.kinds.part().iter();
+    for (word, kind) in memory.words.part_mut().iter_mut().zip(kinds) {
+        if *kind == 7 || random.once_in(4) {
+            let any = random.word();
+            *word = random.pick(&[1, 1, 1, 1, 0, 0, 2, any]);
+        }
+    }
+}
+
+/// Other handlers, mostly some that cover where the state stands.
+fn set_handlers(random: &mut Random, memory: &mut Memory, large: bool) {
+    let kinds = memory.kinds.part();
+    let classes = (0..kinds.len()).filter(|index| kinds[*index] == 7);
+    let around = Around {
+        code: memory.code(),
+        pool: kinds.len(),
+        classes: classes.collect(),
+    };
+    let offset = memory.state_word(2) as usize;
+    let part = handlers::part(random, &around, offset, large);
+    memory.handlers = Lent::guarded(&part, random, memory.handlers.is_bare());
 }
 
 fn set(memory: &mut Memory, place: usize, word: u32) {
@@ -198,10 +231,12 @@ fn set_return_type(random: &mut Random, memory: &mut Memory) {
     set(memory, 6, number);
 }
 
-/// Puts an instruction that works on the stack, or a return, where the state stands, with operands of its kind.
+/// Puts an instruction that works on the stack, or a return, where the state stands, with operands of its kind. A division
+/// is often one by 0, with handlers of its own.
 pub fn instruct(random: &mut Random, memory: &mut Memory) {
-    let opcode = match random.below(6) {
+    let opcode = match random.below(8) {
         0 => random.pick(&[172, 172, 172, 173, 174, 175, 176, 177]),
+        1 | 2 => random.pick(&[108, 109, 112, 113]),
         _ => 87 + random.below(66) as u8,
     };
     let (pops, pushes) = places(opcode).unwrap_or((0, 0));
@@ -225,8 +260,15 @@ pub fn instruct(random: &mut Random, memory: &mut Memory) {
         _ => matches!(opcode, 136..=138 | 142..=144 | 148 | 151 | 152 | 173 | 175),
     };
     popped.copy_from_slice(&operands(random, pops, long));
+    let division = matches!(opcode, 108 | 109 | 112 | 113) && !random.once_in(4);
+    if division {
+        popped[pops / 2..].fill(0);
+    }
     set(memory, 2, pc as u32);
     set(memory, 3, depth as u32);
+    if division && !random.once_in(4) {
+        set_handlers(random, memory, false);
+    }
 }
 
 /// The words of ints and floats, or of longs and doubles, some of them twice.
@@ -250,7 +292,7 @@ fn operands(random: &mut Random, pops: usize, long: bool) -> Vec<u32> {
 /// Changes something between two calls.
 pub fn disturb(random: &mut Random, memory: &mut Memory) {
     let word = random.word();
-    match random.below(26) {
+    match random.below(30) {
         0..=9 => move_to(random, memory),
         10..=13 => set_count(random, memory),
         14 if random.once_in(2) => set(memory, random.below(9), word),
@@ -268,6 +310,13 @@ pub fn disturb(random: &mut Random, memory: &mut Memory) {
             memory.log.resize(length + random.pick(&[0, 10]), random);
         }
         23 | 24 => set_return_type(random, memory),
+        25 => set_handlers(random, memory, false),
+        26 => poke(random, memory.handlers.part_mut(), word as u8),
+        27 => {
+            let length = random.around(memory.handlers.len());
+            memory.handlers.resize(length, random);
+        }
+        28 => set_classes(random, memory),
         _ => {
             let (state, answer) = (short_part(random, 7), short_part(random, 4));
             memory.state.resize(state, random);

@@ -10,11 +10,15 @@ const WITH_OPERANDS: [u8; 32] = [
     167, 170, 171, 170, 171, 196, 196, 198, 199, 200,
 ];
 
-/// Sizes that a method has, and the kinds of its pool.
+/// Bytes of the block at the end of a code that goes round, which is made to be a handler.
+pub const HANDLER: usize = 4;
+
+/// Sizes that a method has, the kinds of its pool, and whether it is made to throw.
 pub struct Shape {
     pub max_stack: usize,
     pub max_locals: usize,
     pub kinds: Vec<u8>,
+    pub throws: bool,
 }
 
 /// A core opcode.
@@ -143,6 +147,10 @@ fn round(random: &mut Random, shape: &Shape, length: usize) -> Vec<u8> {
     let (mut code, mut depth) = (vec![], 0);
     let mut starts = vec![(0, 0)];
     while code.len() < length {
+        if shape.throws && (1..shape.max_stack).contains(&depth) && random.once_in(16) {
+            // A division by 0.
+            code.extend([3, random.pick(&[108, 112])]);
+        }
         let opcode = opcode(random);
         let (pops, pushes) = places(opcode).unwrap_or((0, 0));
         let leaves = matches!(opcode, 108 | 109 | 112 | 113 | 170..=177 | 196 | 200);
@@ -166,10 +174,17 @@ fn round(random: &mut Random, shape: &Shape, length: usize) -> Vec<u8> {
         starts.push((code.len(), depth));
     }
     code.extend(vec![87; depth]);
+    go_back(&mut code);
+    code.push(87);
+    go_back(&mut code);
+    code
+}
+
+/// Writes a jump to the start.
+fn go_back(code: &mut Vec<u8>) {
     let back = -(code.len() as i32) as i16;
     code.push(167);
     code.extend(back.to_be_bytes());
-    code
 }
 
 /// A code of some instructions or of any bytes.
@@ -221,10 +236,11 @@ pub fn shape(random: &mut Random) -> Shape {
     for kind in &mut kinds {
         *kind = match random.below(12) {
             0 if random.once_in(4) => random.next() as u8,
-            _ => random.pick(&[3, 4, 5, 6]),
+            _ => random.pick(&[3, 4, 5, 6, 7]),
         };
     }
     Shape {
+        throws: random.once_in(2),
         max_stack: random.below(20),
         max_locals: random.below(9),
         kinds,

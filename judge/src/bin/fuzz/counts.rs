@@ -18,6 +18,10 @@ pub struct Counts {
     /// Accepted sheets with a descriptor, and ints that a step or a forward returned narrowed.
     typed: u64,
     narrowed: u64,
+    /// Accepted sheets with handlers; divisions by 0 that a step or a forward caught, and those that it did not.
+    handled: u64,
+    caught: u64,
+    thrown: u64,
     /// How often back took forwards back, a list was its presses, a run was its steps.
     pub walks: u64,
     pub lists: u64,
@@ -33,6 +37,9 @@ impl Counts {
             run_steps: 0,
             typed: 0,
             narrowed: 0,
+            handled: 0,
+            caught: 0,
+            thrown: 0,
             walks: 0,
             lists: 0,
             runs: 0,
@@ -55,7 +62,12 @@ impl Counts {
         }
         if function == Function::Load && number == 0 {
             self.typed += u64::from(after.state_word(6) != 0);
+            self.handled += u64::from(after.answer.part()[3] != 0);
         }
+        if one && number == 0 && divides_by_0(before) {
+            self.caught += 1;
+        }
+        self.thrown += u64::from(one && number == 110);
         if function == Function::Presses && number == 0 {
             let answers = after.answers.part().chunks_exact(3);
             for answer in answers.take(after.presses.len()) {
@@ -92,7 +104,21 @@ impl Counts {
         println!("{} steps in runs", self.run_steps);
         let (typed, narrowed) = (self.typed, self.narrowed);
         println!("{typed} accepted sheets with a descriptor, {narrowed} ints narrowed");
+        let (handled, caught, thrown) = (self.handled, self.caught, self.thrown);
+        println!("{handled} accepted sheets with handlers, {caught} divisions by 0 caught, {thrown} not caught");
         let (walks, lists, runs) = (self.walks, self.lists, self.runs);
         println!("{walks} walks there and back, {lists} lists and {runs} runs one by one");
     }
+}
+
+/// Whether a memory that the first questions passed stands at a division by 0.
+fn divides_by_0(memory: &Memory) -> bool {
+    let size = match memory.code()[memory.state_word(2) as usize] {
+        108 | 112 => 1,
+        109 | 113 => 2,
+        _ => return false,
+    };
+    let above = memory.state_word(1) as usize + memory.state_word(3) as usize;
+    let divisor = &memory.slots.part()[above - size..above];
+    divisor.iter().all(|word| *word == 0)
 }

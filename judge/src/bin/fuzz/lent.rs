@@ -52,12 +52,6 @@ impl<T: Element> Lent<T> {
         *self = Lent::guarded(&part, random, self.is_bare());
     }
 
-    /// The same guards around another part.
-    pub fn with(&self, part: &[T]) -> Lent<T> {
-        let [before, after] = self.guards();
-        Lent::between(before, part, after)
-    }
-
     fn hexadecimal(&self) -> String {
         let width = 2 * size_of::<T>();
         let part = self.part();
@@ -91,7 +85,7 @@ impl Memory {
     pub fn describe(&self, function: Function) -> String {
         use Function::{Back, Forward, Load, Presses, Run};
         let line = |name: &str, length: usize, digits: String| {
-            format!("  {name:8}{length:7}  {digits}")
+            format!("  {name:9}{length:7}  {digits}")
                 .trim_end()
                 .to_string()
         };
@@ -102,6 +96,10 @@ impl Memory {
         }
         lines.push(line("kinds", self.kinds.len(), self.kinds.hexadecimal()));
         lines.push(line("words", self.words.len(), self.words.hexadecimal()));
+        if !matches!(function, Load | Back) {
+            let handlers = &self.handlers;
+            lines.push(line("handlers", handlers.len(), handlers.hexadecimal()));
+        }
         lines.push(line("slots", self.slots.len(), self.slots.hexadecimal()));
         if matches!(function, Forward | Back | Presses) {
             lines.push(line("log", self.log.len(), self.log.hexadecimal()));
@@ -116,7 +114,7 @@ impl Memory {
             lines.push(line("answers", answers.len(), answers.hexadecimal()));
         }
         if function == Run {
-            lines.push(format!("  budget  {:7}", self.budget));
+            lines.push(format!("  budget   {:7}", self.budget));
         }
         lines.join("\n")
     }

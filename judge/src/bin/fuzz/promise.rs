@@ -34,7 +34,7 @@ pub fn kept(function: Function, before: &Memory, after: &Memory, number: u32) ->
     guards(before, after)?;
     only_read(function, before, after)?;
     let allowed = match function {
-        Function::Load => matches!(number, 0 | 21..=27 | 31),
+        Function::Load => matches!(number, 0 | 21..=27 | 31 | 33),
         Function::Step => matches!(number, 0..=11 | 32 | 101..=106 | 110),
         Function::Forward => matches!(number, 0..=12 | 32 | 101..=106 | 110),
         Function::Back => matches!(number, 0..=3 | 13 | 14),
@@ -47,7 +47,10 @@ pub fn kept(function: Function, before: &Memory, after: &Memory, number: u32) ->
         _ => before.answer.len(),
     };
     if before.state.len() < 7 || answer < 4 {
-        let refused = matches!((function, number), (Function::Load, 21..=27 | 31) | (_, 1));
+        let refused = match function {
+            Function::Load => number != 0,
+            _ => number == 1,
+        };
         check(refused, "too few words of state or answer were taken")?;
         return nothing(before, after);
     }
@@ -70,6 +73,7 @@ fn guards(before: &Memory, after: &Memory) -> Kept {
     same("sheet", &before.sheet, &after.sheet)?;
     same("kinds", &before.kinds, &after.kinds)?;
     same("words", &before.words, &after.words)?;
+    same("handlers", &before.handlers, &after.handlers)?;
     same("slots", &before.slots, &after.slots)?;
     same("log", &before.log, &after.log)?;
     same("state", &before.state, &after.state)?;
@@ -85,6 +89,10 @@ fn only_read(function: Function, before: &Memory, after: &Memory) -> Kept {
     let answers = matches!(function, Function::Back | Function::Presses);
     check(before.sheet == after.sheet, "the sheet was written")?;
     check(before.presses == after.presses, "presses was written")?;
+    check(
+        before.handlers == after.handlers,
+        "the handlers were written",
+    )?;
     check(loads || before.kinds == after.kinds, "kinds was written")?;
     check(loads || before.words == after.words, "words was written")?;
     check(logs || before.log == after.log, "the log was written")?;
@@ -151,19 +159,42 @@ fn load(before: &Memory, after: &Memory, number: u32) -> Kept {
     check(state[7..] == before.state.part()[7..], "state words 7 on")?;
     let answer = after.answer.part();
     check(
-        answer[2..] == before.answer.part()[2..],
-        "answer words 2 on",
+        answer[4..] == before.answer.part()[4..],
+        "answer words 4 on",
     )?;
-    let end = u64::from(answer[0]) + u64::from(answer[1]);
+    let [code, handlers] = [0, 2].map(|word| {
+        let start = answer[word] as usize;
+        start..start + answer[word + 1] as usize
+    });
+    let length = before.sheet.len();
     check(
-        answer[1] > 0 && end <= before.sheet.len() as u64,
+        !code.is_empty() && code.end <= length,
         "the code lies outside of the sheet",
     )?;
+    check(
+        code.end <= handlers.start && handlers.end <= length,
+        "the handlers lie outside of the sheet, or before the end of the code",
+    )?;
+    check_handlers(&before.sheet.part()[handlers.start..], handlers.len())?;
     let frame = after.frame();
     check(frame <= before.slots.len(), "too few slots were taken")?;
     check(
         after.slots.part()[frame..] == before.slots.part()[frame..],
         "a slot past the frame was written",
+    )
+}
+
+/// The part that a load gives, with the rest of the sheet: whole records, and the arguments after it.
+fn check_handlers(rest: &[u8], length: usize) -> Kept {
+    let (part, arguments) = rest.split_at(length);
+    let records = part.chunks(12).all(|record| {
+        let whole = record.len() == 12;
+        whole && record.starts_with(b"EX\x00\x08")
+    });
+    check(records, "the handlers are no records of 12 bytes")?;
+    check(
+        arguments.starts_with(b"AR"),
+        "no arguments after the handlers",
     )
 }
 

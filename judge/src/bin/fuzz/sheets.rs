@@ -2,12 +2,14 @@
 
 use super::codes::{code, long_code, shape};
 use super::descriptors;
+use super::handlers::{self, Around};
 use super::random::Random;
 use bytecode::records::{arguments, constant, descriptor, record, sizes};
 
-const SAMPLES: [&[u8]; 24] = [
+const SAMPLES: [&[u8]; 29] = [
     include_bytes!("../../../../samples/boolean_return.sheet"),
     include_bytes!("../../../../samples/byte_return.sheet"),
+    include_bytes!("../../../../samples/catch_division.sheet"),
     include_bytes!("../../../../samples/char_return.sheet"),
     include_bytes!("../../../../samples/division_by_zero.sheet"),
     include_bytes!("../../../../samples/endless.sheet"),
@@ -20,13 +22,17 @@ const SAMPLES: [&[u8]; 24] = [
     include_bytes!("../../../../samples/loop.sheet"),
     include_bytes!("../../../../samples/minimum_by_minus_one.sheet"),
     include_bytes!("../../../../samples/nan_comparison.sheet"),
+    include_bytes!("../../../../samples/nested_handlers.sheet"),
+    include_bytes!("../../../../samples/not_covered.sheet"),
     include_bytes!("../../../../samples/printed.sheet"),
+    include_bytes!("../../../../samples/refused_handler.sheet"),
     include_bytes!("../../../../samples/refused_length.sheet"),
     include_bytes!("../../../../samples/refused_return.sheet"),
     include_bytes!("../../../../samples/refused_stack.sheet"),
     include_bytes!("../../../../samples/refused_words.sheet"),
     include_bytes!("../../../../samples/shifts.sheet"),
     include_bytes!("../../../../samples/short_return.sheet"),
+    include_bytes!("../../../../samples/skipped_terms.sheet"),
     include_bytes!("../../../../samples/swap.sheet"),
     include_bytes!("../../../../samples/tableswitch_highest.sheet"),
     include_bytes!("../../../../samples/wide.sheet"),
@@ -54,7 +60,19 @@ fn built(random: &mut Random, large: bool) -> Vec<u8> {
     };
     code.truncate(65_535);
     sheet.extend(record(b"CD", &code));
-    sheet.extend(constants(random, shape.kinds, large));
+    let (records, pool, classes) = constants(random, shape.kinds, large);
+    sheet.extend(records);
+    if shape.throws {
+        let around = Around {
+            code: &code,
+            pool,
+            classes,
+        };
+        sheet.extend(handlers::records(random, &around, large));
+        if random.once_in(48) {
+            sheet.extend(constant(pool as u16, 3, &[0; 4]));
+        }
+    }
     let many = match (random.below(12), places) {
         (0, _) => random.around(max_locals),
         (1, Some(places)) => random.around(places),
@@ -65,18 +83,26 @@ fn built(random: &mut Random, large: bool) -> Vec<u8> {
     sheet
 }
 
-/// Constants of these kinds, whose indices are seldom wrong.
-fn constants(random: &mut Random, mut kinds: Vec<u8>, large: bool) -> Vec<u8> {
-    let mut records = vec![];
+/// Constants of these kinds, whose indices are seldom wrong, the length of a pool for them, and the indices
+/// of classes.
+fn constants(random: &mut Random, mut kinds: Vec<u8>, large: bool) -> (Vec<u8>, usize, Vec<usize>) {
+    let (mut records, mut classes) = (vec![], vec![]);
     let mut index = 1 - usize::from(random.once_in(24)) + random.below(2);
     if large && random.once_in(16) {
         let many = random.below(50_000);
-        kinds = (0..many).map(|_| random.pick(&[3, 4, 5, 6])).collect();
+        kinds = (0..many).map(|_| random.pick(&[3, 4, 5, 6, 7])).collect();
     }
     for &kind in &kinds {
         let long = matches!(kind, 5 | 6);
         let many = 1 + usize::from(long);
-        let value: Vec<_> = (0..many).map(|_| random.word().to_be_bytes()).collect();
+        let word = |random: &mut Random| match kind {
+            7 if !random.once_in(96) => random.pick(&[0, 1, 1]),
+            _ => random.word(),
+        };
+        let value: Vec<_> = (0..many).map(|_| word(random).to_be_bytes()).collect();
+        if kind == 7 {
+            classes.push(index);
+        }
         records.extend(constant(index as u16, kind, value.as_flattened()));
         index += many;
         if kinds.len() > 8 {
@@ -90,7 +116,7 @@ fn constants(random: &mut Random, mut kinds: Vec<u8>, large: bool) -> Vec<u8> {
             _ => {}
         }
     }
-    records
+    (records, index, classes)
 }
 
 /// Where the records begin, as far as their lengths lead, and the end.
@@ -126,10 +152,14 @@ fn spoil(random: &mut Random, sheet: &mut Vec<u8>) {
         3 => sheet[at..end].reverse(),
         4 => sheet.extend(random.bytes(1 + end - at)),
         5 | 6 => {
-            let mark = random.pick(&[b"LM", b"CD", b"KI", b"AR", b"ds", b"DS", b"DS"]);
-            let length = random.pick(&[0, 1, 3, 4, 4, 5, 7, 8, 11]);
+            let marks = [
+                b"LM", b"CD", b"KI", b"AR", b"ds", b"DS", b"DS", b"EX", b"EX",
+            ];
+            let mark = random.pick(&marks);
+            let length = random.pick(&[0, 1, 3, 4, 4, 5, 7, 8, 8, 9, 11]);
             let body = match mark {
                 b"DS" if length > 3 => descriptors::descriptor(random, 4, false).0,
+                b"EX" if length == 8 => vec![0, 0, 0, 1, 0, 0, 0, random.pick(&[0, 0, 1, 2])],
                 _ => random.bytes(length),
             };
             sheet.splice(at..at, record(mark, &body));

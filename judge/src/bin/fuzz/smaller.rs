@@ -46,6 +46,7 @@ fn smaller(function: Function, memory: &Memory) -> Option<(Memory, String)> {
     with_simpler_code(function, memory)
         .into_iter()
         .chain(part!(presses))
+        .chain(part!(handlers))
         .chain(part!(log))
         .chain(part!(slots))
         .chain(part!(kinds))

@@ -43,7 +43,7 @@ use std::collections::BTreeSet;
 
 /// The first entries that some lists from a load leave, by hand; words past those given are 0.
 #[rustfmt::skip]
-const LOGS: [(&str, &[&[u32]]); 7] = [
+const LOGS: [(&str, &[&[u32]]); 9] = [
     ("no locals there and back", &[&[0, 0, 0, 1, 0], &[1, 1, 1, 1, 0], &[2, 2, 0, 1, 3]]),
     ("stack there and back", &[
         &[0, 0, 5, 1, 0], &[1, 1, 6, 1, 0], &[2, 2, 7, 2, 0, 0], &[3, 4, 5, 6, 11, 12, 13, 14, 0, 0], &[4, 6, 0, 0],
@@ -58,6 +58,10 @@ const LOGS: [(&str, &[&[u32]]); 7] = [
     ("divisions there and back", &[
         &[0, 0, 3, 1, 0], &[2, 1, 4, 1, 0], &[3, 2, 3, 1, 100], &[4, 1, 1, 1, 0], &[5, 0, 3, 2, 33, 3],
     ]),
+    ("caught there and back", &[
+        &[0, 0, 2, 1, 0], &[1, 1, 3, 1, 0], &[2, 2, 4, 1, 0], &[3, 3, 2, 1, 5], &[6, 1, 3, 1, 4], &[7, 2, 2, 1, 1],
+    ]),
+    ("caught as a byte there and back", &[&[0, 0, 2, 2, 0, 0], &[1, 2, 4, 2, 0, 0], &[2, 4, 2, 1, u32::MAX], &[4, 1, 3, 1, u32::MAX]]),
     ("references there and back", &[&[0, 0, 3, 1, 0], &[1, 1, 0, 0], &[4, 0, 2, 1, 0]]),
 ];
 

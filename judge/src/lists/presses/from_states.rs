@@ -119,10 +119,13 @@ pub fn any_walks(methods: &Methods) -> Vec<List> {
 pub fn refused_sheets(methods: &Methods) -> Vec<List> {
     let held = methods.named("held");
     let marked = [&held.sheet[..], &records::record(b"XX", &[])].concat();
+    let (sizes, code) = (records::sizes(1, 1), records::record(b"CD", &[0xB1]));
     let with = |descriptor: Vec<u8>, words: &[u32]| {
-        let (sizes, code) = (records::sizes(1, 1), records::record(b"CD", &[0xB1]));
-        [sizes, descriptor, code, records::arguments(words)].concat()
+        let arguments = records::arguments(words);
+        [&sizes[..], &descriptor, &code, &arguments].concat()
     };
+    let handler = records::handler([0, 1, 1, 0]);
+    let handled = [&sizes[..], &code, &handler, &records::arguments(&[])].concat();
     let argued = with(vec![], &[1, 2]);
     let described = with(records::descriptor(b"(V)V"), &[1]);
     let counted = with(records::descriptor(b"()V"), &[1]);
@@ -145,6 +148,7 @@ pub fn refused_sheets(methods: &Methods) -> Vec<List> {
         ("sheet with too many arguments", 27, argued, 9),
         ("sheet with a bad descriptor", 31, described, 9),
         ("sheet with another number of words", 31, counted, 9),
+        ("sheet with a handler outside", 33, handled, 9),
         (
             "sheet with one slot too few",
             26,

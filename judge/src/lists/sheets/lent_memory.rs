@@ -89,6 +89,7 @@ fn pools_that_reach(samples: &mut Samples) {
         ("double_at_5", "double 5", 6),
         ("int_1_long_2", "int 1; long 2", 3),
         ("long_1_int_9", "long 1; int 9", 9),
+        ("class_at_5", "class 5; handler 0 1 0 5", 5),
     ] {
         for length in [0, 1, used - 1, used] {
             pool(samples, name, 26, (length, length), constants);

@@ -10,7 +10,7 @@ const RICH_WORDS: [u32; 12] = [0, 0x2A, 0xFFA1_2345, 0x89AB_CDEF, 0x0123_4567, 1
 #[rustfmt::skip]
 const RICH_SLOTS: [u32; 10] = [5, 0xFFFF_FFFF, 0x8000_0000, 0, 0, 0, 0, 0xBEEF_0007, 0xBEEF_0008, 0xBEEF_0009];
 
-/// The printed sheet and the rich one.
+/// Whole sheets: the printed one, the rich one, one with a descriptor and one with handlers.
 pub fn whole_sheets(samples: &mut Samples) {
     let printed = samples.add("printed", GOOD, "printed").slots(3).pool(2);
     printed.holds(&[0; 2], &[0; 2], &[0, 0, 0xBEEF_0002]);
@@ -35,6 +35,8 @@ pub fn whole_sheets(samples: &mut Samples) {
         &[0, 0x2A, 0],
         &[5, 6, 7, 0, 0, 0, 0, 0xBEEF_0007],
     );
+    let handled = samples.add("handled", GOOD, "handled").slots(3).pool(4);
+    handled.holds(&[0, 7, 7, 0], &[0, 1, 0, 0], &[0, 0, 0xBEEF_0002]);
 }
 
 /// Constants of every kind, at every place that may be theirs, with any value.

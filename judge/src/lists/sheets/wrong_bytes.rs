@@ -1,12 +1,13 @@
 //! Sheets that are cut at every byte, and sheets with one byte changed.
 
-use super::records::{sheet, PRINTED, RICH, TYPED};
+use super::records::{sheet, HANDLED, PRINTED, RICH, TYPED};
 use super::{Samples, GOOD};
 
 /// Where the records of the whole sheets begin.
 const PRINTED_STARTS: [usize; 3] = [0, 8, 16];
 const RICH_STARTS: [usize; 8] = [0, 8, 19, 30, 41, 56, 71, 82];
 const TYPED_STARTS: [usize; 5] = [0, 8, 22, 33, 44];
+const HANDLED_STARTS: [usize; 7] = [0, 8, 17, 28, 39, 51, 63];
 
 /// The byte is the same.
 const SAME: u32 = u32::MAX;
@@ -38,6 +39,16 @@ const TYPED_CHANGES: [Change; 17] = [
     (46, [21, SAME, 21]), (47, [21, 31, 21]), (59, [GOOD; 3]),
 ];
 
+/// Bytes of the sheet with handlers.
+#[rustfmt::skip]
+const HANDLED_CHANGES: [Change; 26] = [
+    (10, [21, SAME, 21]), (11, [21, 24, 21]), (20, [24, 24, 21]), (23, [25; 3]), (24, [25, SAME, 25]), (27, [GOOD, GOOD, 25]),
+    (31, [24, 24, 21]), (34, [25; 3]), (35, [25, SAME, 25]), (38, [GOOD, SAME, 25]),
+    (41, [21, SAME, 21]), (42, [33, 33, 21]), (43, [33, SAME, 33]), (44, [GOOD, SAME, 33]), (45, [33, SAME, 33]), (46, [GOOD, 33, 33]),
+    (47, [33, SAME, 33]), (48, [33, GOOD, 33]), (49, [33, SAME, 33]), (50, [33, GOOD, 33]),
+    (54, [33, 33, 21]), (56, [GOOD, GOOD, 33]), (58, [GOOD, 33, 33]), (60, [GOOD, GOOD, 33]), (61, [33, SAME, 33]), (62, [GOOD, SAME, 33]),
+];
+
 /// Sheets cut at every byte, and sheets with a changed byte.
 pub fn all(samples: &mut Samples) {
     cut(samples, "printed", PRINTED, &PRINTED_STARTS);
@@ -45,6 +56,14 @@ pub fn all(samples: &mut Samples) {
     changed(samples, "rich", RICH, &RICH_STARTS, &RICH_CHANGES);
     cut(samples, "typed", TYPED, &TYPED_STARTS);
     changed(samples, "typed", TYPED, &TYPED_STARTS, &TYPED_CHANGES);
+    cut(samples, "handled", HANDLED, &HANDLED_STARTS);
+    changed(
+        samples,
+        "handled",
+        HANDLED,
+        &HANDLED_STARTS,
+        &HANDLED_CHANGES,
+    );
 }
 
 /// A cut between two records leaves out `AR`, another one cuts a record.

@@ -27,7 +27,7 @@ fn cut_records(samples: &mut Samples) {
                 &format!("{beginning}; zeros {length}"),
             );
         }
-        for mark in ["LM", "DS", "CD", "KI", "AR", "XX"] {
+        for mark in ["LM", "DS", "CD", "KI", "EX", "AR", "XX"] {
             samples.add(
                 format!("{mark}_one_byte_short_{place}"),
                 21,
@@ -62,7 +62,7 @@ fn unknown_marks(samples: &mut Samples) {
 
 /// 22: marks that are nearly right.
 fn nearly_right_marks(samples: &mut Samples) {
-    let marks: [(&str, &[&str], &str, &str); 5] = [
+    let marks: [(&str, &[&str], &str, &str); 6] = [
         (
             "LM",
             &["Lm", "lM", "ML", "LD", "LR", "L_", "_M"],
@@ -83,6 +83,12 @@ fn nearly_right_marks(samples: &mut Samples) {
             "0001030000002A; AR",
         ),
         (
+            "EX",
+            &["Ex", "eX", "XE", "EK", "AX", "EI"],
+            "LM; CD; KI",
+            "0000000200010000; AR",
+        ),
+        (
             "AR",
             &["Ar", "aR", "RA", "AI", "AM"],
             "LM; CD",
@@ -100,19 +106,26 @@ fn nearly_right_marks(samples: &mut Samples) {
     }
 }
 
-const ALL: [&str; 5] = ["LM", "DS", "CD", "KI", "AR"];
+const ALL: [&str; 6] = ["LM", "DS", "CD", "KI", "EX", "AR"];
 
 /// 23: a record at a wrong place.
 fn wrong_orders(samples: &mut Samples) {
-    let places: [(&str, &str, &[&str]); 10] = [
-        ("first", "", &["DS", "CD", "KI", "AR"]),
-        ("after_lm", "LM", &["LM", "KI", "AR"]),
-        ("after_ds", "LM; DS", &["LM", "DS", "KI", "AR"]),
+    let places: [(&str, &str, &[&str]); 13] = [
+        ("first", "", &["DS", "CD", "KI", "EX", "AR"]),
+        ("after_lm", "LM", &["LM", "KI", "EX", "AR"]),
+        ("after_ds", "LM; DS", &["LM", "DS", "KI", "EX", "AR"]),
         ("after_cd", "LM; CD", &["LM", "DS", "CD"]),
         ("after_ds_cd", "LM; DS; CD", &["LM", "DS", "CD"]),
         ("after_ki", "LM; CD; KI", &["LM", "DS", "CD"]),
         ("after_ds_ki", "LM; DS; CD; KI", &["LM", "DS", "CD"]),
+        ("after_ex", "LM; CD; EX", &["LM", "DS", "CD", "KI"]),
+        (
+            "after_ki_ex",
+            "LM; CD; KI; EX; EX",
+            &["LM", "DS", "CD", "KI"],
+        ),
         ("after_ar", "LM; CD; KI; AR", &ALL),
+        ("after_ex_ar", "LM; CD; KI; EX; AR", &["KI", "EX", "AR"]),
         ("after_cd_ar", "LM; CD; AR", &ALL),
         ("after_ds_cd_ar", "LM; DS; CD; AR", &ALL),
     ];
@@ -168,6 +181,15 @@ fn missing_records(samples: &mut Samples) {
         ("ends_after_DS_and_KI", "LM; DS; CD; KI"),
         ("ends_after_KI", "LM; CD; KI"),
         ("ends_after_two_KI", "LM; CD; KI; double 7"),
+        ("ends_after_EX", "LM; CD; KI; EX"),
+        ("EX_between_KI", "LM; CD; KI; EX; int 2; AR"),
+        (
+            "EX_between_classes",
+            "LM; CD; class 1; handler 0 2 1 1; class 2; AR",
+        ),
+        ("EX_between_LM_and_CD", "LM; EX; CD; AR"),
+        ("EX_before_its_class", "LM; CD; EX; class 1; AR"),
+        ("EX_last", "LM; CD; AR; EX"),
     ] {
         samples.add(name, 23, text);
     }
@@ -256,7 +278,7 @@ fn wrong_tags(samples: &mut Samples) {
 
 /// 25: indices that are 0, used, or below one that is used.
 fn wrong_indices(samples: &mut Samples) {
-    for kind in ["int", "float", "long", "double"] {
+    for kind in ["int", "float", "long", "double", "class"] {
         let mut wrong = |name: &str, constants: String, pool: usize| {
             let text = format!("LM; CD; {constants}; AR");
             samples.add(format!("{kind}_{name}"), 25, &text).pool(pool);
@@ -325,6 +347,8 @@ pub fn bytes_after(samples: &mut Samples) {
             ("and_AR_of_many", 23, &many),
             ("and_KI", 23, "int 10"),
             ("and_wrong_KI", 23, "int 0"),
+            ("and_EX", 23, "EX"),
+            ("and_wrong_EX", 23, "handler 1 1 0 0"),
             ("and_DS", 23, "DS"),
             ("and_bad_DS", 23, "descriptor V"),
             ("and_CD", 23, "CD"),

@@ -12,7 +12,7 @@ slice-relend-prefix-print-run : tie.Need-slice-relend-prefix-print-run
 slice-relend-prefix-print-run c = search needs
 
 slice-aggregate-print-run : tie.Need-slice-aggregate-print-run
-slice-aggregate-print-run c = sym (length-take-le (c .before .least .result) (c .before .before .before .before .before .before .args .slots .now) (c .before .least .ensures))
+slice-aggregate-print-run c = sym (length-take-le (c .before .least .result) (c .before .before .before .before .before .before .before .args .slots .now) (c .before .least .ensures))
 
 print-run-requires : tie.Need-print-run-requires
 print-run-requires c κs = search needs

@@ -7,10 +7,10 @@ use Rattle.step_traces.proofs.walking.walk.Statement.{statement}
 use Rattle.step_traces.proofs.walking.walk.Tie as tie
 
 abbrev Inv-loop : tie.InvT-loop
-Inv-loop code kinds words slots₀ t₀ steps₀ t11 slots t steps = length slots ≡ length slots₀
+Inv-loop code kinds words handlers slots₀ t₀ steps₀ t11 slots t steps = length slots ≡ length slots₀
 
 abbrev μ-loop : tie.MeasureT-loop
-μ-loop code kinds words slots₀ t₀ steps₀ t11 slots t steps = 60 - steps
+μ-loop code kinds words handlers slots₀ t₀ steps₀ t11 slots t steps = 60 - steps
 
 slice-aggregate-print-words : tie.Need-slice-aggregate-print-words Inv-loop μ-loop
 slice-aggregate-print-words c = search needs

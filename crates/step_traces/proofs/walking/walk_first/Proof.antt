@@ -12,7 +12,7 @@ slice-relend-prefix-walk : tie.Need-slice-relend-prefix-walk
 slice-relend-prefix-walk c = search needs
 
 slice-aggregate-walk : tie.Need-slice-aggregate-walk
-slice-aggregate-walk c = sym (length-take-le (c .before .least .result) (c .before .before .before .before .before .before .args .slots .now) (c .before .least .ensures))
+slice-aggregate-walk c = sym (length-take-le (c .before .least .result) (c .before .before .before .before .before .before .before .args .slots .now) (c .before .least .ensures))
 
 walk-requires : tie.Need-walk-requires
 walk-requires c κs = search needs

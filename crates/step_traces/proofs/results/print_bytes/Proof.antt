@@ -1,27 +1,21 @@
--- `print_code` is safe and ends. Assumes nothing.
+-- `print_bytes` is safe and ends. Assumes nothing.
 use Prim.Native.Nat.{_-_}
 use lib.ListN.{length}
 use borrow.Author.Needs.{needs}
-use Rattle.step_traces.proofs.results.print_code.Statement.{statement}
-use Rattle.step_traces.proofs.results.print_code.Tie as tie
+use Rattle.step_traces.proofs.results.print_bytes.Statement.{statement}
+use Rattle.step_traces.proofs.results.print_bytes.Tie as tie
 
 abbrev Inv-loop : tie.InvT-loop
-Inv-loop code i₀ t5 i = Unit {0}
+Inv-loop bytes i₀ t5 i = Unit {0}
 
 abbrev μ-loop : tie.MeasureT-loop
-μ-loop code i₀ t5 i = length code - i
+μ-loop bytes i₀ t5 i = length bytes - i
 
 slice-aggregate-print : tie.Need-slice-aggregate-print Inv-loop μ-loop
 slice-aggregate-print c = search needs
 
 print-requires : tie.Need-print-requires Inv-loop μ-loop
 print-requires c κs = search needs
-
-slice-aggregate-print-2 : tie.Need-slice-aggregate-print-2 Inv-loop μ-loop
-slice-aggregate-print-2 c = search needs
-
-print-requires-2 : tie.Need-print-requires-2 Inv-loop μ-loop
-print-requires-2 c κs = search needs
 
 loop-holds : tie.Need-loop-holds Inv-loop μ-loop
 loop-holds c = search needs
@@ -44,25 +38,23 @@ loop-less c = search needs
 loop-again : tie.Need-loop-again Inv-loop μ-loop
 loop-again c = search needs
 
-slice-aggregate-print-3 : tie.Need-slice-aggregate-print-3 Inv-loop μ-loop
-slice-aggregate-print-3 c = search needs
+slice-aggregate-print-2 : tie.Need-slice-aggregate-print-2 Inv-loop μ-loop
+slice-aggregate-print-2 c = search needs
 
-print-requires-3 : tie.Need-print-requires-3 Inv-loop μ-loop
-print-requires-3 c κs = search needs
+print-requires-2 : tie.Need-print-requires-2 Inv-loop μ-loop
+print-requires-2 c κs = search needs
 
 returns : tie.Need-returns Inv-loop μ-loop
 returns c = search needs
 
-pub print-code-spec : {M : Type 1} → statement M
-print-code-spec =
+pub print-bytes-spec : {M : Type 1} → statement M
+print-bytes-spec =
     tie.close
     (tie.spec
     Inv-loop
     μ-loop
     slice-aggregate-print
     print-requires
-    slice-aggregate-print-2
-    print-requires-2
     loop-holds
     shared-slice-read-from-byte
     from-byte-requires
@@ -70,6 +62,6 @@ print-code-spec =
     add-i
     loop-less
     loop-again
-    slice-aggregate-print-3
-    print-requires-3
+    slice-aggregate-print-2
+    print-requires-2
     returns)
