@@ -16,10 +16,16 @@ use crate::values;
 use std::collections::HashMap;
 
 /// The offsets of labels.
-type Labels<'a> = HashMap<&'a str, usize>;
+pub type Labels<'a> = HashMap<&'a str, usize>;
 
 /// The code of a listing, or what is wrong in it.
 pub fn assemble(listing: &str) -> Result<Vec<u8>, String> {
+    assemble_with_labels(listing).map(|(code, _)| code)
+}
+
+/// The code of a listing, and where its labels are. One after the last instruction is at the code's
+/// end.
+pub fn assemble_with_labels(listing: &str) -> Result<(Vec<u8>, Labels<'_>), String> {
     let items = items(listing);
     let labels = labels(&items)?;
     let mut code = vec![];
@@ -27,7 +33,7 @@ pub fn assemble(listing: &str) -> Result<Vec<u8>, String> {
         let encoded = encode(&mut code, item, &labels);
         encoded.map_err(|what| format!("{}: {what}", item.join(" ")))?;
     }
-    Ok(code)
+    Ok((code, labels))
 }
 
 /// Labels, with their colon, and instructions, each as its words.
@@ -199,6 +205,13 @@ mod tests {
         let lookup = assemble("lookupswitch 5 +0 default -7");
         let bytes = "AB000000 FFFFFFF9 00000001 00000005 00000000";
         assert_eq!(lookup, values::bytes(&bytes.replace(' ', "")));
+    }
+
+    #[test]
+    fn a_label_may_be_at_the_end() {
+        let (code, labels) = assemble_with_labels("a: nop; b: iconst_1; ireturn; end:").unwrap();
+        assert_eq!(code, [0x00, 0x04, 0xAC]);
+        assert_eq!(labels, Labels::from([("a", 0), ("b", 1), ("end", 3)]));
     }
 
     #[test]

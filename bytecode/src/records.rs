@@ -28,6 +28,12 @@ pub fn constant(index: u16, tag: u8, value: &[u8]) -> Vec<u8> {
     record(b"KI", &[&index.to_be_bytes()[..], &[tag], value].concat())
 }
 
+/// The record of a handler: start, end, handler and catch type.
+#[must_use]
+pub fn handler(fields: [u16; 4]) -> Vec<u8> {
+    record(b"EX", fields.map(u16::to_be_bytes).as_flattened())
+}
+
 /// The record with the arguments.
 #[must_use]
 pub fn arguments(words: &[u32]) -> Vec<u8> {

@@ -17,7 +17,7 @@ pub struct Answer {
 impl Answer {
     /// An ordinary step, or a press that was made.
     pub const GRANTED: Answer = Answer::without_value(0);
-    /// An ArithmeticException.
+    /// An ArithmeticException that nothing catches.
     pub const THROW: Answer = Answer::without_value(110);
     /// The budget is used up.
     pub const STOPPED: Answer = Answer::without_value(120);

@@ -4,7 +4,8 @@
 //! that one mistake is not made twice.
 //!
 //! - [`decode`], [`shapes`], [`operations`], [`floats`] and [`step`]: the questions of a step, the 164
-//!   instructions, the step and the run; [`returns`]: what a return type asks and narrows.
+//!   instructions, the step and the run; [`returns`]: what a return type asks and narrows; [`handlers`]:
+//!   a throw at an offset.
 //! - [`history`] and [`plain_walk`]: forward and back with their log, and the walk without one.
 //! - [`sheet`]: the load; [`descriptor`]: the method descriptors in it.
 //! - [`printed_walk`]: the text of a walk; [`opcode_page`]: that of the page of opcodes.
@@ -19,6 +20,7 @@ pub mod answers;
 pub mod decode;
 pub mod descriptor;
 pub mod floats;
+pub mod handlers;
 pub mod history;
 pub mod lists;
 pub mod opcode_page;

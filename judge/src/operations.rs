@@ -40,6 +40,8 @@ pub enum Does {
     Store(Few),
     /// Goes on so far from the opcode.
     Jump(i32),
+    /// Throws an ArithmeticException.
+    Throw,
     /// Ends the walk.
     End(Answer),
 }
@@ -164,7 +166,7 @@ fn int_arithmetic(opcode: u8, words: Popped) -> Does {
         96 => one.wrapping_add(other),
         100 => one.wrapping_sub(other),
         104 => one.wrapping_mul(other),
-        108 | 112 if other == 0 => return Does::End(Answer::THROW),
+        108 | 112 if other == 0 => return Does::Throw,
         108 => one.wrapping_div(other),
         112 => one.wrapping_rem(other),
         120 => one.wrapping_shl(count),
@@ -191,7 +193,7 @@ fn long_arithmetic(opcode: u8, words: Popped) -> Does {
         97 => one.wrapping_add(other),
         101 => one.wrapping_sub(other),
         105 => one.wrapping_mul(other),
-        109 | 113 if other == 0 => return Does::End(Answer::THROW),
+        109 | 113 if other == 0 => return Does::Throw,
         109 => one.wrapping_div(other),
         113 => one.wrapping_rem(other),
         127 => one & other,

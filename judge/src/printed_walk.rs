@@ -48,15 +48,17 @@ fn top(slots: &[u32], state: &State) -> String {
 pub fn printed(sheet: &[u8]) -> Vec<String> {
     let sheet = &sheet[..sheet.len().min(MOST_BYTES)];
     let (mut kinds, mut words, mut slots) = (vec![0; POOL], vec![0; POOL], vec![0; SLOTS]);
-    let (mut state, code) = match load(sheet, &mut slots, &mut kinds, &mut words) {
+    let loaded = match load(sheet, &mut slots, &mut kinds, &mut words) {
         Ok(loaded) => loaded,
         Err(number) => return vec![format!("sheet {number}")],
     };
     let method = Method {
-        code: &sheet[code],
+        code: &sheet[loaded.code],
         kinds: &kinds,
         words: &words,
+        handlers: &sheet[loaded.handlers],
     };
+    let mut state = loaded.state;
     let (steps, end) = walk(&method, &mut slots, &mut state, MOST_STEPS);
     [vec![HEADER.to_string()], steps, vec![end.to_string()]].concat()
 }

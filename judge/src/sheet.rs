@@ -18,6 +18,8 @@ pub struct Sheet {
     pub code: Range<usize>,
     /// Index, tag, and where the value lies.
     constants: Vec<(usize, u8, Range<usize>)>,
+    /// Where the records of handlers lie; without one, where the first would.
+    pub handlers: Range<usize>,
     arguments: Range<usize>,
     /// How long a pool has to be.
     pub reach: usize,
@@ -31,7 +33,8 @@ enum Due {
     Limits,
     DescriptorOrCode,
     Code,
-    ConstantOrArguments,
+    ConstantHandlerOrArguments,
+    HandlerOrArguments,
     Nothing,
 }
 
@@ -57,6 +60,7 @@ pub fn read(sheet: &[u8]) -> Result<Sheet, u32> {
             b"DS" => read.descriptor(sheet, body)?,
             b"CD" => read.code(body)?,
             b"KI" => read.constant(sheet, body)?,
+            b"EX" => read.handler(sheet, body)?,
             b"AR" => read.arguments(body)?,
             _ => return Err(22),
         }
@@ -87,26 +91,57 @@ impl Sheet {
     fn code(&mut self, body: Range<usize>) -> Result<(), u32> {
         ask(matches!(self.due, Due::DescriptorOrCode | Due::Code), 23)?;
         ask(!body.is_empty(), 24)?;
+        self.handlers = body.end..body.end;
         self.code = body;
-        self.due = Due::ConstantOrArguments;
+        self.due = Due::ConstantHandlerOrArguments;
         Ok(())
     }
 
     fn constant(&mut self, sheet: &[u8], body: Range<usize>) -> Result<(), u32> {
-        ask(self.due == Due::ConstantOrArguments, 23)?;
+        ask(self.due == Due::ConstantHandlerOrArguments, 23)?;
         ask(body.len() == 7 || body.len() == 11, 24)?;
         let (index, tag) = (short(sheet, body.start), sheet[body.start + 2]);
         let long = body.len() == 11;
-        ask(matches!((long, tag), (false, 3 | 4) | (true, 5 | 6)), 25)?;
+        ask(
+            matches!((long, tag), (false, 3 | 4 | 7) | (true, 5 | 6)),
+            25,
+        )?;
+        ask(tag != 7 || word(sheet, body.start + 3) <= 1, 25)?;
         let last = index + usize::from(long);
         ask(index > 0 && index >= self.reach && last <= 65_535, 25)?;
         self.reach = last + 1;
+        self.handlers = body.end..body.end;
         self.constants.push((index, tag, body.start + 3..body.end));
         Ok(())
     }
 
+    /// A handler of any length passes 24.
+    fn handler(&mut self, sheet: &[u8], body: Range<usize>) -> Result<(), u32> {
+        ask(self.takes_handlers(), 23)?;
+        ask(body.len() == 8, 33)?;
+        let [start, end, handler, catch_type] =
+            [0, 2, 4, 6].map(|at| short(sheet, body.start + at));
+        let length = self.code.len();
+        ask(start < end && start < length && end <= length, 33)?;
+        ask(handler < length, 33)?;
+        let mut classes = self.constants.iter().filter(|constant| constant.1 == 7);
+        let named = catch_type == 0 || classes.any(|class| class.0 == catch_type);
+        ask(named, 33)?;
+        self.handlers.end = body.end;
+        self.due = Due::HandlerOrArguments;
+        Ok(())
+    }
+
+    /// Whether a handler may come. Arguments may come at the same places.
+    fn takes_handlers(&self) -> bool {
+        matches!(
+            self.due,
+            Due::ConstantHandlerOrArguments | Due::HandlerOrArguments
+        )
+    }
+
     fn arguments(&mut self, body: Range<usize>) -> Result<(), u32> {
-        ask(self.due == Due::ConstantOrArguments, 23)?;
+        ask(self.takes_handlers(), 23)?;
         ask(body.len().is_multiple_of(4), 24)?;
         let words = body.len() / 4;
         ask(words <= self.max_locals, 27)?;
@@ -127,14 +162,25 @@ impl Sheet {
     }
 }
 
-/// Loads a sheet: fills what is lent, and gives the state and where the code lies. A refused load
-/// writes nothing.
+/// What an accepted load gives.
+#[derive(Clone, Debug, PartialEq, Eq)]
+pub struct Loaded {
+    /// The state.
+    pub state: State,
+    /// Where the code lies in the sheet.
+    pub code: Range<usize>,
+    /// Where the handlers lie.
+    pub handlers: Range<usize>,
+}
+
+/// Loads a sheet: fills what is lent, and gives the state and where the code and the handlers lie. A
+/// refused load writes nothing.
 pub fn load(
     sheet: &[u8],
     slots: &mut [u32],
     kinds: &mut [u8],
     words: &mut [u32],
-) -> Result<(State, Range<usize>), u32> {
+) -> Result<Loaded, u32> {
     let read = read(sheet)?;
     let state = read.state();
     let reaches = slots.len() >= state.frame() && kinds.len() >= read.reach;
@@ -157,20 +203,24 @@ pub fn load(
     for (slot, at) in frame.iter_mut().zip(read.arguments.step_by(4)) {
         *slot = word(sheet, at);
     }
-    Ok((state, read.code))
+    Ok(Loaded {
+        state,
+        code: read.code,
+        handlers: read.handlers,
+    })
 }
 
 #[cfg(test)]
 mod tests {
     use super::*;
-    use bytecode::records::{arguments, descriptor, record, sizes};
+    use bytecode::records::{arguments, constant, descriptor, handler, record, sizes};
 
     /// Loads a method of three locals and these words, with a descriptor or without.
     fn loaded(text: Option<&str>, words: &[u32]) -> Result<State, u32> {
         let described = text.map_or(vec![], |text| descriptor(text.as_bytes()));
         let code = record(b"CD", &[0xB1]);
         let sheet = [sizes(1, 3), described, code, arguments(words)].concat();
-        load(&sheet, &mut [0; 4], &mut [], &mut []).map(|(state, _)| state)
+        load(&sheet, &mut [0; 4], &mut [], &mut []).map(|loaded| loaded.state)
     }
 
     #[test]
@@ -207,5 +257,61 @@ mod tests {
         assert_eq!(number(Some("(Z)Z"), &[2]), None);
         assert_eq!(number(Some("(V)V"), &[1, 2, 3, 4]), Some(31));
         assert_eq!(number(Some(""), &[]), Some(31));
+    }
+
+    /// Loads a method of five bytes of code with these records between code and arguments.
+    fn with(records: &[Vec<u8>]) -> Result<Loaded, u32> {
+        let code = record(b"CD", &[0; 5]);
+        let sheet = [sizes(0, 0), code, records.concat(), arguments(&[])].concat();
+        load(&sheet, &mut [], &mut [0; 9], &mut [0; 9])
+    }
+
+    #[test]
+    fn the_handlers_are_a_part_of_the_sheet() {
+        let part = |records: &[Vec<u8>]| with(records).map(|loaded| loaded.handlers);
+        let class = constant(1, 7, &[0, 0, 0, 1]);
+        let entries = [[0, 5, 4, 0], [4, 5, 0, 1]].map(handler);
+        assert_eq!(part(&[]), Ok(17..17));
+        assert_eq!(part(&[class.clone()]), Ok(28..28));
+        assert_eq!(part(&entries[..1]), Ok(17..29));
+        assert_eq!(part(&[&[class.clone()], &entries[..]].concat()), Ok(28..52));
+        assert_eq!(part(&entries), Err(33));
+        assert_eq!(part(&[entries[0].clone(), class]), Err(23));
+    }
+
+    #[test]
+    fn a_handler_lies_in_the_code_and_names_a_class() {
+        let constants = [
+            constant(1, 7, &[0; 4]),
+            constant(2, 3, &[0; 4]),
+            constant(3, 5, &[0; 8]),
+        ];
+        let number = |fields| with(&[&constants[..], &[handler(fields)]].concat()).err();
+        assert_eq!(number([0, 5, 0, 1]), None);
+        assert_eq!(number([4, 5, 4, 0]), None);
+        for wrong in [
+            [0, 0, 0, 0],
+            [3, 2, 0, 0],
+            [5, 6, 0, 0],
+            [0, 6, 0, 0],
+            [0, 5, 5, 0],
+            [0, 5, 0, 2],
+            [0, 5, 0, 3],
+            [0, 5, 0, 4],
+            [0, 5, 0, 5],
+        ] {
+            assert_eq!(number(wrong), Some(33), "{wrong:?}");
+        }
+    }
+
+    #[test]
+    fn a_class_has_the_word_0_or_1() {
+        let number = |value: &[u8]| with(&[constant(1, 7, value)]).err();
+        assert_eq!(number(&[0; 4]), None);
+        assert_eq!(number(&[0, 0, 0, 1]), None);
+        for wrong in [[0, 0, 0, 2], [0, 0, 1, 0], [1, 0, 0, 0], [255; 4]] {
+            assert_eq!(number(&wrong), Some(25));
+        }
+        assert_eq!(number(&[0; 8]), Some(25));
     }
 }

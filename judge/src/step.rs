@@ -2,6 +2,7 @@
 
 use crate::answers::{ask, Answer};
 use crate::decode::{decode, Decoded};
+use crate::handlers::throw;
 use crate::operations::{perform, Does, Few};
 use crate::returns::suits;
 use crate::shapes::{locals, places};
@@ -15,6 +16,8 @@ pub struct Method<'a> {
     pub kinds: &'a [u8],
     /// Its words.
     pub words: &'a [u32],
+    /// The handlers.
+    pub handlers: &'a [u8],
 }
 
 /// The state. Its sizes are words, as they are lent; question 1 refuses those above 16 bits.
@@ -101,6 +104,7 @@ pub fn decide(method: &Method, slots: &[u32], state: &State) -> Result<Effect, A
     let does = perform(method, &decoded, slots, popped);
     let distance = match does {
         Does::End(answer) => return Err(answer.of_type(state.return_type)),
+        Does::Throw => return throw(method, state, state.pc as usize),
         Does::Jump(distance) => distance.into(),
         _ => decoded.length as i64,
     };

@@ -19,6 +19,7 @@ fn stepped(code: &[u8], slots: &mut [u32], max_locals: usize) -> (u32, Vec<u32>)
         code,
         kinds: &[],
         words: &[],
+        handlers: &[],
     };
     let mut state = State {
         max_stack: 8,

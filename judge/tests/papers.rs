@@ -16,6 +16,7 @@ fn left(instruction: &str, stack: &[u32]) -> Vec<u32> {
         code: &code,
         kinds: &[],
         words: &[],
+        handlers: &[],
     };
     let mut slots = [stack, &[0; 6]].concat();
     let mut state = State {
@@ -61,6 +62,7 @@ fn iinc_of_0_with_255() {
         code: &[0x84, 0x00, 0xFF, 0xB1],
         kinds: &[],
         words: &[],
+        handlers: &[],
     };
     let (mut slots, mut state) = ([0], State::default());
     state.max_locals = 1;

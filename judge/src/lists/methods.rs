@@ -1,6 +1,6 @@
 //! The sample methods of crates/step_traces, with what each is lent and the state that it starts from.
 //!
-//! A line of the file is one sample, 412 bytes with its line feed, all numbers in upper-case hexadecimal:
+//! A line of the file is one sample, 496 bytes with its line feed, all numbers in upper-case hexadecimal:
 //!
 //! ```text
 //! columns   0- 39  the name
@@ -10,14 +10,16 @@
 //!         175-190  8 kinds
 //!         192      how many words of constants are lent
 //!         194-257  8 words
-//!         259      how many slots are lent
-//!         261-356  12 slots
-//!         358-361  max_stack
-//!         363-366  max_locals
-//!         368-375  pc
-//!         377-384  depth
-//!         386-401  count
-//!         403-410  the return type
+//!         259- 260 how many bytes of handlers are lent
+//!         262- 341 40 bytes of handlers
+//!         343      how many slots are lent
+//!         345-440  12 slots
+//!         442-445  max_stack
+//!         447-450  max_locals
+//!         452-459  pc
+//!         461-468  depth
+//!         470-485  count
+//!         487-494  the return type
 //! ```
 //!
 //! Bytes and words past those that are lent are 0. Each sample says how its walk ends. The first ones are
@@ -26,8 +28,10 @@
 
 use super::facts::facts;
 use super::returns;
-use super::text::{about, code, joined, number, rows, Settings};
+use super::text::{about, handlers, joined, listing as listing_of, number, rows, Settings};
 use crate::step::{Method, State};
+use bytecode::assembler::assemble_with_labels;
+use bytecode::values::bytes;
 use std::collections::HashSet;
 use std::fmt::UpperHex;
 
@@ -44,6 +48,8 @@ pub struct Sample {
     pub kinds: Vec<u8>,
     /// The words of the pool.
     pub words: Vec<u32>,
+    /// The handlers.
+    pub handlers: Vec<u8>,
     /// The slots.
     pub slots: Vec<u32>,
     /// The state.
@@ -59,13 +65,15 @@ impl Sample {
             code: &self.code,
             kinds: &self.kinds,
             words: &self.words,
+            handlers: &self.handlers,
         }
     }
 
     /// Whether two samples are lent the same.
     fn is_lent_the_same(&self, other: &Sample) -> bool {
         let pool = (&self.kinds, &self.words) == (&other.kinds, &other.words);
-        pool && self.code == other.code && self.slots == other.slots && self.state == other.state
+        let code = (&self.code, &self.handlers) == (&other.code, &other.handlers);
+        pool && code && self.slots == other.slots && self.state == other.state
     }
 }
 
@@ -103,6 +111,7 @@ impl Lent {
             code,
             kinds,
             words,
+            handlers: vec![],
             slots: held
                 .map(|(place, word)| word.unwrap_or(junk(place)))
                 .collect(),
@@ -119,11 +128,13 @@ impl Lent {
     }
 }
 
-const KEYWORDS: [&str; 13] = [
+const KEYWORDS: [&str; 15] = [
     "max_stack",
     "locals",
     "stack",
     "pool",
+    "handlers",
+    "rest",
     "spare",
     "pc",
     "depth",
@@ -148,7 +159,12 @@ fn read(row: &[&str]) -> Result<Sample, String> {
         pool: pool(said.words("pool").unwrap_or_default())?,
         spare: said.number("spare")?.unwrap_or(1),
     };
-    let mut sample = lent.sample(name, end, code(listing)?);
+    let text = listing_of(listing);
+    let (code, labels) = assemble_with_labels(&text)?;
+    let mut sample = lent.sample(name, end, code);
+    sample.handlers = handlers(said.words("handlers").unwrap_or_default(), &labels)?;
+    let rest = said.words("rest").unwrap_or_default().concat();
+    sample.handlers.extend(bytes(&rest)?);
     let state = &mut sample.state;
     state.pc = said.number("pc")?.unwrap_or(state.pc);
     state.depth = said.number("depth")?.unwrap_or(state.depth);
@@ -229,6 +245,7 @@ fn line(sample: &Sample) -> Result<String, String> {
         code,
         kinds,
         words,
+        handlers,
         slots,
         state,
         ..
@@ -237,6 +254,7 @@ fn line(sample: &Sample) -> Result<String, String> {
         (code.len(), 64),
         (kinds.len(), 8),
         (words.len(), 8),
+        (handlers.len(), 40),
         (slots.len(), 12),
     ];
     if name.len() > 40 || lent.iter().any(|(many, most)| many > most) {
@@ -250,6 +268,8 @@ fn line(sample: &Sample) -> Result<String, String> {
         filled(kinds, 2, 8),
         format!("{:X}", words.len()),
         filled(words, 8, 8),
+        format!("{:02X}", handlers.len()),
+        filled(handlers, 2, 40),
         format!("{:X}", slots.len()),
         filled(slots, 8, 12),
         format!("{:04X} {:04X}", state.max_stack, state.max_locals),

@@ -1,6 +1,7 @@
 //! The text files of judge/lists: rows of columns, and what listings.txt names.
 
-use bytecode::assembler::assemble;
+use bytecode::assembler::{assemble, Labels};
+use bytecode::source;
 use bytecode::values::Kind;
 use std::collections::HashMap;
 use std::str::FromStr;
@@ -54,6 +55,17 @@ pub fn listing(text: &str) -> String {
 /// The code of a listing.
 pub fn code(text: &str) -> Result<Vec<u8>, String> {
     assemble(&listing(text))
+}
+
+/// The records of handlers, each START,END,HANDLER,TYPE as a source has them (bytecode/src/source.rs).
+pub fn handlers(words: &[&str], labels: &Labels) -> Result<Vec<u8>, String> {
+    let record = |word: &&str| {
+        let fields: Vec<&str> = word.split(',').collect();
+        let fields = fields.try_into();
+        source::handler(fields.map_err(|_| "a handler has four fields")?, labels)
+    };
+    let records = words.iter().map(|word| record(word).map_err(about(word)));
+    Ok(records.collect::<Result<Vec<_>, _>>()?.concat())
 }
 
 /// Words under the keywords before them.

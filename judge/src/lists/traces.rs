@@ -9,6 +9,7 @@
 //! code BYTES
 //! kinds NUMBERS                 the constants' kinds
 //! words WORDS                   the constants' words
+//! handlers BYTES                the lent handlers
 //! slots WORDS                   the lent slots before: the locals, the stack, and slots past the frame
 //! state SIX NUMBERS             before: max_stack, max_locals, pc, depth, count and the return type
 //! step pc op depth top          then a line for each ordinary step without history, as in a printed walk
@@ -73,6 +74,7 @@ fn trace(sample: &Sample) -> Result<Vec<String>, String> {
         listed("code", &sample.code, |byte| format!("{byte:02X}")),
         listed("kinds", &sample.kinds, u8::to_string),
         listed("words", &sample.words, |word| format!("{word:08X}")),
+        listed("handlers", &sample.handlers, |byte| format!("{byte:02X}")),
     ];
     lines.extend(shown(&sample.slots, &sample.state));
     lines.push(HEADER.to_string());

@@ -2,9 +2,10 @@
 
 use super::Begin;
 use crate::answers::Answer;
-use crate::lists::text::{about, code, rows, Settings};
+use crate::lists::text::{about, handlers, listing as listing_of, rows, Settings};
 use crate::sheet::load;
 use crate::step::{run, Method, State};
+use bytecode::assembler::assemble_with_labels;
 use bytecode::{records, source};
 
 /// The most steps that are taken to see how a method ends.
@@ -52,6 +53,7 @@ pub struct Loaded {
     code: Vec<u8>,
     kinds: Vec<u8>,
     words: Vec<u32>,
+    handlers: Vec<u8>,
     /// The slots.
     pub slots: Vec<u32>,
     /// The state.
@@ -65,6 +67,7 @@ impl Loaded {
             code: &self.code,
             kinds: &self.kinds,
             words: &self.words,
+            handlers: &self.handlers,
         }
     }
 }
@@ -73,18 +76,19 @@ impl Loaded {
 pub fn loaded(sheet: &[u8], slots: usize, pool: usize, begin: Begin) -> Result<Loaded, u32> {
     let (mut kinds, mut words) = (vec![0xAB; pool], vec![0xDEAD_DEAD; pool]);
     let mut slots = vec![0xBEEF_BEEF; slots];
-    let (state, code) = load(sheet, &mut slots, &mut kinds, &mut words)?;
+    let loaded = load(sheet, &mut slots, &mut kinds, &mut words)?;
     let Begin { pc, depth, count } = begin;
     Ok(Loaded {
-        code: sheet[code].to_vec(),
+        code: sheet[loaded.code].to_vec(),
         kinds,
         words,
+        handlers: sheet[loaded.handlers].to_vec(),
         slots,
         state: State {
             pc,
             depth,
             count,
-            ..state
+            ..loaded.state
         },
     })
 }
@@ -108,12 +112,13 @@ pub fn methods() -> Result<Methods, String> {
     })
 }
 
-const KEYWORDS: [&str; 7] = [
+const KEYWORDS: [&str; 8] = [
     "max_stack",
     "descriptor",
     "arguments",
     "more",
     "constants",
+    "handlers",
     "spare",
     "pool",
 ];
@@ -150,13 +155,16 @@ fn sheet_and_frame(said: &Settings, listing: &str) -> Result<(Vec<u8>, usize), S
     let max_stack: u16 = said.number("max_stack")?.ok_or("max_stack is not said")?;
     let max_locals = arguments.len() as u16 + said.number("more")?.unwrap_or(0);
     let descriptors = said.words("descriptor").unwrap_or_default().iter();
+    let text = listing_of(listing);
+    let (code, labels) = assemble_with_labels(&text)?;
     let sheet = [
         records::sizes(max_stack, max_locals),
         descriptors
             .flat_map(|text| records::descriptor(text.as_bytes()))
             .collect(),
-        records::record(b"CD", &code(listing)?),
+        records::record(b"CD", &code),
         constants(said.words("constants").unwrap_or_default())?,
+        handlers(said.words("handlers").unwrap_or_default(), &labels)?,
         records::arguments(&arguments),
     ];
     let frame = usize::from(max_stack) + usize::from(max_locals);

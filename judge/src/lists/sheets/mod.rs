@@ -16,12 +16,13 @@
 //! An answer is a line for each sample, in the same order:
 //!
 //! ```text
-//! NAME accepted MAX_STACK MAX_LOCALS START LENGTH kinds K words W slots S code C
-//! NAME refused N kinds K words W slots S code C
+//! NAME accepted MAX_STACK MAX_LOCALS CODE LENGTH HANDLERS LENGTH kinds K words W slots S code C handlers H
+//! NAME refused N kinds K words W slots S code C handlers H
 //! ```
 //!
-//! START is the offset in the sheet of the code's first byte. These numbers are decimal. K, W and S are checksums of all that is
-//! lent, after the load, and C that of the code, of a refused load that of no bytes, each 8 upper-case hexadecimal digits.
+//! CODE is the offset in the sheet of the code's first byte, HANDLERS that of the handlers'. These numbers are decimal. K, W and
+//! S are checksums of all that is lent, after the load, and C and H those of the code and of the handlers, of a refused load those
+//! of no bytes, each 8 upper-case hexadecimal digits.
 //!
 //! Each sample says what it gives; a load that gives something else is an error.
 
@@ -36,7 +37,7 @@ pub mod wrong_records;
 
 use super::scatter::checksum;
 use super::text::joined;
-use crate::sheet::load;
+use crate::sheet::{load, Loaded};
 use std::collections::HashSet;
 
 /// What an accepted load gives, where a refused one gives its number.
@@ -100,16 +101,21 @@ impl Sample {
         if gives != self.gives {
             return Err(format!("{name} gives {gives}, not {}", self.gives));
         }
-        let (shown, code) = match loaded {
-            Ok((state, code)) => {
-                let (start, length) = (code.start, code.len());
+        let (shown, [code, handlers]) = match loaded {
+            Ok(Loaded {
+                state,
+                code,
+                handlers,
+            }) => {
                 let sizes = format!("{} {}", state.max_stack, state.max_locals);
+                let places =
+                    [&code, &handlers].map(|part| format!("{} {}", part.start, part.len()));
                 (
-                    format!("accepted {sizes} {start} {length}"),
-                    &self.sheet[code],
+                    format!("accepted {sizes} {}", places.join(" ")),
+                    [&self.sheet[code], &self.sheet[handlers]],
                 )
             }
-            Err(number) => (format!("refused {number}"), &[][..]),
+            Err(number) => (format!("refused {number}"), [&[][..]; 2]),
         };
         let of_bytes = |bytes: &[u8]| checksum(bytes.iter().map(|byte| u32::from(*byte)));
         let sums = [
@@ -117,14 +123,15 @@ impl Sample {
             checksum(words.clone()),
             checksum(slots.clone()),
             of_bytes(code),
+            of_bytes(handlers),
         ];
-        let [k, w, s, c] = sums.map(|sum| format!("{sum:08X}"));
+        let [k, w, s, c, h] = sums.map(|sum| format!("{sum:08X}"));
         let left = (kinds, words, slots);
         if self.holds.as_ref().is_some_and(|holds| *holds != left) {
             return Err(format!("{name} leaves {left:X?}"));
         }
         Ok(format!(
-            "{name} {shown} kinds {k} words {w} slots {s} code {c}"
+            "{name} {shown} kinds {k} words {w} slots {s} code {c} handlers {h}"
         ))
     }
 }
