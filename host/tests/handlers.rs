@@ -59,13 +59,9 @@ fn a_load_gives_where_the_handlers_lie() {
 
 #[test]
 fn handlers_follow_the_code_where_there_are_no_constants() {
-    let entry = handler([0, 1, 0, 0]);
-    for (records, length) in [
-        (&[][..], 0),
-        (&[entry.clone()], 12),
-        (&[entry.clone(), entry], 24),
-    ] {
-        let sheet = sheet_with(0, 0, &[0xB1], records);
+    for length in [0, 12, 24] {
+        let records = vec![handler([0, 1, 0, 0]); length as usize / 12];
+        let sheet = sheet_with(0, 0, &[0xB1], &records);
         // With a descriptor, everything lies seven bytes further on.
         for (sheet, code) in [(with_descriptor(b"()V", &sheet), 19), (sheet, 12)] {
             let mut memory = Memory::new(&sheet, ENOUGH);
