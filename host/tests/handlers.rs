@@ -34,7 +34,7 @@ fn dividing(records: &[Vec<u8>]) -> Vec<u8> {
 
 #[test]
 fn a_load_gives_where_the_handlers_lie() {
-    // At their limits: the whole code, its first byte, its last one; every class, and the last byte.
+    // At their limits: the whole code, its first byte, its last byte; catch type 0, and each class.
     let table = [[0, 8, 7, 0], [0, 1, 0, 2], [7, 8, 7, 3], [0, 8, 0, 8]];
     for many in 0..=table.len() {
         let records: Vec<Vec<u8>> = table[..many].iter().map(|entry| handler(*entry)).collect();
@@ -287,7 +287,7 @@ fn each_division_by_0_is_caught() {
 #[test]
 fn nothing_else_is_caught() {
     let table: [(u8, &[u32]); 12] = [
-        // Divisors that are 0 in one of their words.
+        // A dividend of 0, and divisors of which one word is 0.
         (0x6C, &[0, 5]),
         (0x6D, &[1, 2, 1, 0]),
         (0x6D, &[1, 2, 0, 1]),
@@ -410,7 +410,7 @@ fn a_handler_outside_of_the_code_is_refused() {
         let [first, second] = [[0, 8, outside, 3], [0, 8, 5, 0]].map(handler);
         let memory = standing(&DIVIDES, 3, &[3, 5, 0], &first);
         not_caught(&memory, 11, &what);
-        // The next entry is not asked; the log is, but later.
+        // No later entry is asked, and the handler is asked before the log.
         let part = [first, second].concat();
         let mut memory = standing(&DIVIDES, 3, &[3, 5, 0], &part);
         not_caught(&memory, 11, &what);
