@@ -1,8 +1,5 @@
 import java.util.ArrayList;
-import java.util.Collections;
 import java.util.List;
-import java.util.function.IntPredicate;
-import java.util.stream.IntStream;
 
 /**
  * Makes a method with an exception table, whose divisors are often 0.
@@ -20,20 +17,13 @@ final class HandlerMaker extends Maker {
   };
   private static final int LONGEST = 100, ENTRIES = 7; // bytes of code and entries, so that the list stays small
 
-  /** A handler: its offset, the kinds of the locals that it knows, and which instructions it may cover, by their number. */
-  private record Place(int at, char[] locals, int from, int to) {}
-
-  /** Instructions by their number, `to` excluded. */
-  private record Range(int from, int to) {}
-
-  private final List<Place> places = new ArrayList<>();
-  private final List<Sample.Handler> table = new ArrayList<>();
+  private final ExceptionTable table = new ExceptionTable(dice, code, this::type);
   private int floor = -1; // the first instruction of the loop, or of the method without its beginning
 
   private HandlerMaker(Dice dice, int span) {
     super(dice, span);
     code.starts = new ArrayList<>();
-    zeros = 200;
+    zeros = 300;
   }
 
   static Sample make(Dice dice) {
@@ -78,7 +68,7 @@ final class HandlerMaker extends Maker {
     boolean whole = floor < 0;
     if (whole) floor = code.starts.size();
     super.block(items);
-    if (whole && (places.isEmpty() || dice.chance(40))) attempt(dice.from(1, 3));
+    if (whole && (table.entries.isEmpty() || dice.chance(40))) attempt(dice.from(1, 3));
   }
 
   @Override
@@ -127,7 +117,7 @@ final class HandlerMaker extends Maker {
   private void attempt(int items) {
     int first = code.starts.size();
     block(items);
-    if (dice.chance(75)) divide(dice.pick(108, 112));
+    if (dice.chance(85)) divide(dice.pick(108, 112));
     Code.Label after = new Code.Label();
     if (dice.chance(15)) end();
     else code.jump(dice.pick(167, 167, 200), after);
@@ -137,6 +127,7 @@ final class HandlerMaker extends Maker {
       else {
         handler(first, floor, code.starts.size());
         block(dice.below(3));
+        if (dice.chance(30)) divide(dice.pick(108, 112));
         if (after.frame != null) become(after.frame.stack);
         if (more > 0) code.jump(167, after);
       }
@@ -153,13 +144,11 @@ final class HandlerMaker extends Maker {
 
   /** A handler that stands here, with entries for what was written from an instruction on. */
   private void handler(int first, int from, int to) {
-    List<Range> ranges = new ArrayList<>();
-    for (int n = 1 + dice.weighted(72, 22, 6); n > 0; n--) ranges.add(range(dice.chance(10) ? floor : first, code.starts.size()));
-    char[] locals = common(ranges);
-    Place place = new Place(code.size, locals, from, to);
+    List<ExceptionTable.Range> ranges = new ArrayList<>();
+    for (int n = 1 + dice.weighted(72, 22, 6); n > 0; n--) ranges.add(table.range(dice.chance(10) ? floor : first, code.starts.size()));
+    char[] locals = table.common(ranges);
+    table.add(new ExceptionTable.Place(code.size, locals, from, to), ranges);
     stand(locals);
-    for (Range range : ranges) table.add(entry(place, range));
-    places.add(place);
     use();
   }
 
@@ -209,16 +198,22 @@ final class HandlerMaker extends Maker {
     }
     boolean alike = exit.frame.stack.equals("A");
     inside(items, new Loop(alike ? again : null, exit, exit.frame.stack, counter));
-    if (dice.chance(75)) divide(dice.pick(108, 112));
+    if (dice.chance(85)) divide(dice.pick(108, 112));
     if (dice.chance(20)) {
       become("A");
       code.jump(167, again);
     } else become(exit.frame.stack);
-    Place place = new Place(again.at, again.frame.locals, first, code.starts.size());
-    places.add(place);
-    for (int n = 1 + dice.weighted(75, 25); n > 0; n--) table.add(entry(place, range(first, code.starts.size())));
+    cover(again, first);
     code.put(turns, turns(start));
     code.bind(exit);
+  }
+
+  /** Entries for what was written from an instruction on, with a handler before it. */
+  private void cover(Code.Label handler, int first) {
+    List<ExceptionTable.Range> ranges = new ArrayList<>();
+    int end = code.starts.size();
+    for (int n = 1 + dice.weighted(75, 25); n > 0; n--) ranges.add(table.range(first, end));
+    table.add(new ExceptionTable.Place(handler.at, handler.frame.locals, first, end), ranges);
   }
 
   /** Does something, or nothing, with the reference that a handler begins with. */
@@ -240,27 +235,9 @@ final class HandlerMaker extends Maker {
   @Override
   List<Sample.Handler> handlers() {
     for (int n = dice.weighted(50, 40, 10); n > 0; n--) last(floor);
-    for (int n = dice.weighted(20, 35, 25, 20); n > 0 && !places.isEmpty(); n--) more();
-    for (int n = dice.chance(25) ? table.size() : 0; n > 1; n--) Collections.swap(table, n - 1, dice.below(n));
-    return table;
-  }
-
-  /** One more entry for a handler, where its locals are known. */
-  private void more() {
-    Place place = dice.pick(places);
-    int end = code.starts.size();
-    Range range = range(place.from, Math.min(place.to, end));
-    if (place.to > end && dice.chance(35)) range = new Range(range.from, end); // to the end of the code
-    if (suits(place, range)) table.add(dice.below(table.size() + 1), entry(place, range));
-  }
-
-  private Sample.Handler entry(Place place, Range range) {
-    if (!suits(place, range)) throw new IllegalStateException("a handler covers what it does not suit");
-    return new Sample.Handler(offset(range.from), offset(range.to), place.at, type());
-  }
-
-  private int offset(int number) {
-    return number < code.starts.size() ? code.starts.get(number).at() : code.size;
+    for (int n = dice.weighted(20, 35, 25, 20); n > 0; n--) table.more();
+    if (dice.chance(25)) table.shuffle();
+    return table.entries;
   }
 
   /** A catch type: 0, or the index of a class. */
@@ -269,56 +246,5 @@ final class HandlerMaker extends Maker {
     String name = CLASSES[dice.weighted(20, 8, 6, 8, 10, 5, 5, 5)];
     for (Sample.Constant c : pool) if (name.equals(c.name()) && dice.chance(80)) return c.index();
     return add('L', HotSpot.takes(name) ? 1 : 0, name);
-  }
-
-  // ---- ranges
-
-  /** All of these instructions, or some of them, often from or to a division. At least one is reached. */
-  private Range range(int from, int to) {
-    while (true) {
-      Range range = dice.chance(40) ? new Range(from, to) : around(from, to);
-      if (some(range, n -> code.starts.get(n).locals() != null)) return range;
-    }
-  }
-
-  private Range around(int from, int to) {
-    int[] divisions = IntStream.range(from, to).filter(this::divides).toArray();
-    if (divisions.length == 0 || dice.chance(15)) {
-      int start = dice.from(from, to - 1);
-      return new Range(start, dice.from(start + 1, to));
-    }
-    int at = dice.pick(divisions);
-    int start = dice.pick(at, at, at + 1, dice.from(from, at), dice.from(from, at)), end = dice.pick(at, at + 1, at + 1, dice.from(at + 1, to), dice.from(at + 1, to));
-    start = Math.min(start, to - 1);
-    return new Range(start, start < end ? end : dice.from(start + 1, to));
-  }
-
-  private boolean divides(int number) {
-    int opcode = code.opcode(code.starts.get(number).at());
-    return code.starts.get(number).locals() != null && (opcode == 108 || opcode == 109 || opcode == 112 || opcode == 113);
-  }
-
-  private boolean some(Range range, IntPredicate which) {
-    return IntStream.range(range.from, range.to).anyMatch(which);
-  }
-
-  /** The locals that are known at all of these instructions. */
-  private char[] common(List<Range> ranges) {
-    char[] out = null;
-    for (Range range : ranges) {
-      for (Code.Start start : code.starts.subList(range.from, range.to)) {
-        if (out == null && start.locals() != null) out = start.locals().clone();
-        else if (start.locals() != null) for (int i = 0; i < span; i++) if (out[i] != start.locals()[i]) out[i] = 0;
-      }
-    }
-    return out;
-  }
-
-  /** Whether the locals that a handler knows are known at all of these instructions. */
-  private boolean suits(Place place, Range range) {
-    return !some(range, n -> {
-      char[] locals = code.starts.get(n).locals();
-      return locals != null && IntStream.range(0, span).anyMatch(i -> place.locals[i] != 0 && place.locals[i] != locals[i]);
-    });
   }
 }
