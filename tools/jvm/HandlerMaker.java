@@ -46,6 +46,11 @@ final class HandlerMaker extends Maker {
   }
 
   @Override
+  String descriptor() {
+    return dice.chance(20) ? HotSpot.plain(kinds.toString(), result) : null;
+  }
+
+  @Override
   int items() {
     return dice.from(1, 6);
   }

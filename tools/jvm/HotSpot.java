@@ -237,9 +237,13 @@ final class HotSpot {
     }
   }
 
-  /** The descriptor of what the instructions know, every reference an Object. */
   private static String plain(Sample sample) {
-    return ("(" + sample.kinds() + ")" + sample.result()).replace("A", "Ljava/lang/Object;");
+    return plain(sample.kinds(), sample.result());
+  }
+
+  /** The descriptor of what the instructions know, every reference an Object. */
+  static String plain(String kinds, char result) {
+    return ("(" + kinds + ")" + result).replace("A", "Ljava/lang/Object;");
   }
 
   private static void text(DataOutputStream out, String text) throws IOException {
