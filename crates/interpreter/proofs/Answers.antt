@@ -2,20 +2,15 @@
 use Prim.Native.Nat.{ℕ, _+_, _≤_}
 use mathlib.Core.Path.{_≡_, refl}
 use mathlib.Core.Bool.{Bool, true, false}
-use mathlib.Core.List.{List, [], _∷_}
-use mathlib.Core.Logic.{⊎-elim}
+use mathlib.Core.List.{List, []}
 use native.Mathlib.Omega.{arith}
-use types.Run.{OneOf}
-use denote.Enum.Declared.{tagOf}
 use lib.Dec.{ltb}
 use lib.IntN.{ℤ, pos, negsuc}
 use lib.ListN.{length}
 use borrow.Author.Tests.{ltb-true}
 use Rattle.values.specs.Integers.{low}
 use Rattle.rules.specs.declared.State.{State}
-use Rattle.rules.specs.declared.Decision.{Decision}
 use Rattle.rules.specs.declared.Decision.the-variants as Decision
-use Rattle.rules.proofs.Decision.{the-type}
 use Rattle.rules.specs.Check.{Check, passed, refused, _else_, _>>_}
 use Rattle.rules.specs.Fetch.{Instruction, fetched}
 use Rattle.rules.specs.Questions.{Method, frameCheck}
@@ -37,7 +32,7 @@ use Rattle.frame.specs.Place.{placeOf}
 use Rattle.rules.proofs.Answers.{row-refused}
 use Rattle.frame.proofs.Needs.{Says, place-says}
 use Rattle.return_types.specs.Settled.{settled}
-use Rattle.interpreter.specs.Stages.{reach, locatedOf, locatedDecision, caught}
+use Rattle.interpreter.specs.Stages.{reach, locatedOf, locatedDecision}
 use Rattle.interpreter.proofs.Decision.{entryAt, listed}
 use Rattle.interpreter.proofs.Sources.{located-decides}
 
@@ -83,10 +78,10 @@ module _ (l : Method) (s : State) (slots : List ℕ) (framed : frameCheck l s (l
     pub by-needs : (n : ℕ) → Placed.Refused n ≡ placeOf entry index s → decideOf l s slots ≡ Decision.Refused n
     by-needs n e = refused-by-needs l (length slots) s (frame s slots) framed (d .i) (d .at) n (says (Placed.Refused n) e)
 
-    pub by-located : (first depth : ℕ) → Placed.At first depth ≡ placeOf entry index s
-        → settled (s .«return_type») (caught l s (locatedDecision (l .code) (l .kinds) (l .words) slots (s .pc) (locatedOf entry index constant (s .pc + size) first depth))) ≡ decideOf l s slots
-    by-located first depth e =
-        rw (d .entered, d .sized, d .indexed, d .as-word) (located-decides l s slots framed (d .i) (d .at) first depth (says (Placed.At first depth) e))
+    pub by-located : l .handlers ≡ [] → (first depth : ℕ) → Placed.At first depth ≡ placeOf entry index s
+        → settled (s .«return_type») (locatedDecision (l .code) (l .kinds) (l .words) slots (s .pc) (locatedOf entry index constant (s .pc + size) first depth)) ≡ decideOf l s slots
+    by-located bare first depth e =
+        rw (d .entered, d .sized, d .indexed, d .as-word) (located-decides l bare s slots framed (d .i) (d .at) first depth (says (Placed.At first depth) e))
 
     pub next-small : s .pc + size ≤ 65535
     next-small =
@@ -97,15 +92,6 @@ module _ (l : Method) (s : State) (slots : List ℕ) (framed : frameCheck l s (l
 
     pub in-table : isIn sharedOpcodes (sharedIn entry) ≡ true
     in-table = rw (d .entered) (listed l s (d .i) (fetched-sound (l .code) (s .pc) (d .i) (d .at)))
-
--- ---- a throw
-
--- a decision that is no throw, as `let .. else` leaves it, is none of the handlers' business
-pub caught-other : (l : Method) (s : State) (d : Decision) → OneOf (0 ∷ 1 ∷ 3 ∷ []) (tagOf the-type d) → caught l s d ≡ d
-caught-other l s (Decision.Ordinary u) h = refl
-caught-other l s (Decision.Return v) h = refl
-caught-other l s Decision.Throw h = absurd (⊎-elim (λ z. omega arith) (⊎-elim (λ z. omega arith) (λ z. omega arith)) h)
-caught-other l s (Decision.Refused n) h = refl
 
 -- ---- question 10
 

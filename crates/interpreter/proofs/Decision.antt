@@ -1,11 +1,10 @@
--- An instruction that is decoded and placed comes to what the rules decide. Assumes nothing.
+-- An instruction that is decoded and placed comes to what the rules decide, in a method without handlers. Assumes nothing.
 use Prim.Native.Nat.{ℕ, _+_, _-_}
 use mathlib.Core.Path.{_≡_, refl, sym, ap, _∙_}
 use mathlib.Core.Bool.{Bool, true, false, _||_, cond}
 use mathlib.Core.List.{List, [], _∷_}
-use mathlib.Core.Option.{Option, none, some}
-use lib.Dec.{leb, eqb}
-use lib.IntN.{ℤ, pos}
+use lib.Dec.{eqb}
+use lib.IntN.{ℤ}
 use lib.ListN.{length, take}
 use borrow.Author.Tests.{eqb-true}
 use Rattle.values.specs.Kinds.{int, placesOf}
@@ -14,13 +13,13 @@ use Rattle.values.specs.Words.{meaning}
 use Rattle.rules.specs.declared.State.{State}
 use Rattle.rules.specs.declared.Decision.{Decision}
 use Rattle.rules.specs.declared.Decision.the-variants as Decision
-use Rattle.rules.specs.Check.{Check, passed, refused, _else_, _>>=_, _>>_}
+use Rattle.rules.specs.Check.{Check, passed, refused, _>>=_}
 use Rattle.rules.specs.Forms.{Rule, Operand, Result, offsetFor, pushes, stores, divides, branches, returns}
 use Rattle.rules.specs.Instructions.{rowOf}
 use Rattle.rules.specs.Fetch.{Instruction, operands, fetched}
 use Rattle.rules.specs.Questions.{Method, popped, pushed, frameCheck, needsCheck}
-use Rattle.rules.specs.Handlers.{handlerAt}
-use Rattle.rules.specs.Step.{frame, base, wordsAt, update, inside, ordinary, following, target, thrownTo, thrownAt, outcome, decision, decideOf}
+use Rattle.rules.specs.Handlers.{handlerFrom}
+use Rattle.rules.specs.Step.{frame, base, wordsAt, update, inside, ordinary, following, target, thrownAt, outcome, decision, decideOf}
 use Rattle.rules.proofs.Rows.{works}
 use Rattle.rules.proofs.Fetched.{Sound}
 use Rattle.rules.proofs.Step.{result, decided}
@@ -36,36 +35,20 @@ use Rattle.effects.proofs.OwnRow.{own-effect, shared-listed}
 use Rattle.frame.proofs.Needs.{Stands, pushed-in, locals-in}
 use Rattle.return_types.specs.Settled.{settled}
 use Rattle.interpreter.specs.declared.finishing.Located.{Located}
-use Rattle.interpreter.specs.Stages.{locatedOf, ordinaryTo, offsetAt, branchOf, finishOf, caught}
+use Rattle.interpreter.specs.Stages.{locatedOf, ordinaryTo, offsetAt, branchOf, finishOf}
 use Rattle.interpreter.proofs.Results.{doesFour, isStore, row-stores, offsetBy, offsetOf, row-offset, row-table, row-pairs}
 
 -- ---- what a result comes to
 
--- a throw is no return, of which question 32 would be asked
-thrown-settled : (l : Method) (s : State) (pc : ℕ) → settled (s .«return_type») (decision (thrownAt l s pc)) ≡ decision (thrownAt l s pc)
-unfolding thrownAt _else_ _>>=_ _>>_
-thrown-settled l s pc = go (handlerAt (l .kinds) (l .words) (l .handlers) pc)
-  where
-    by-place : (t : Bool) (x : Check ℕ)
-        → settled (s .«return_type») (decision ((t else 8) >> (x >>= λ to. passed (Decision.Ordinary (update to 1 (s .«max_locals») 1 (1 ∷ []))))))
-        ≡ decision ((t else 8) >> (x >>= λ to. passed (Decision.Ordinary (update to 1 (s .«max_locals») 1 (1 ∷ [])))))
-    by-place true (passed to) = refl
-    by-place true (refused n) = refl
-    by-place false x = refl
-
-    go : (x : Option ℕ) → settled (s .«return_type») (decision (thrownTo (l .code) s x)) ≡ decision (thrownTo (l .code) s x)
-    go none = refl
-    go (some h) = by-place (leb 1 (s .«max_stack»)) (inside (l .code) (pos h))
-
 module _ (l : Method) (s : State) (i : Instruction) where
   ordinary-is : (to : ℤ) (at n : ℕ) (ws : List ℕ)
-      → decision (ordinary l s i to at n ws) ≡ settled (s .«return_type») (caught l s (ordinaryTo (targetOf (inside (l .code) to)) (s .depth - popped i + pushed i) at n (six ws)))
+      → decision (ordinary l s i to at n ws) ≡ settled (s .«return_type») (ordinaryTo (targetOf (inside (l .code) to)) (s .depth - popped i + pushed i) at n (six ws))
   unfolding _>>=_ targetOf ordinaryTo
   ordinary-is to at n ws = go (inside (l .code) to)
     where
       go : (x : Check ℕ)
           → decision (x >>= λ pc. passed (Decision.Ordinary (update pc (s .depth - popped i + pushed i) at n ws)))
-          ≡ settled (s .«return_type») (caught l s (ordinaryTo (targetOf x) (s .depth - popped i + pushed i) at n (six ws)))
+          ≡ settled (s .«return_type») (ordinaryTo (targetOf x) (s .depth - popped i + pushed i) at n (six ws))
       go (passed pc) = refl
       go (refused n) = refl
 
@@ -77,15 +60,19 @@ module _ (l : Method) (s : State) (i : Instruction) where
     many : i′ .many ≡ cond store (placesOf (i .rule .locals)) (pushed i)
     offset : offsetAt (l .code) (s .pc) (i′ .op) (i′ .constant) key ≡ z
 
-  module _ (i′ : Located) (key : ℕ) (z : ℤ) where
-    finished-by : (r : Result) → Locates i′ (isStore r) (offsetBy z r) key → settled (s .«return_type») (caught l s (finishOf (l .code) (s .pc) i′ key (effectOf r))) ≡ decision (outcome l s i r)
+  module _ (bare : l .handlers ≡ []) (i′ : Located) (key : ℕ) (z : ℤ) where
+    uncaught : decision (thrownAt l s (s .pc)) ≡ Decision.Throw
+    unfolding thrownAt handlerFrom
+    uncaught = rw bare
+
+    finished-by : (r : Result) → Locates i′ (isStore r) (offsetBy z r) key → settled (s .«return_type») (finishOf (l .code) (s .pc) i′ key (effectOf r)) ≡ decision (outcome l s i r)
     unfolding finishOf branchOf
     finished-by (pushes ws) h = rw (h .next, h .deep, h .first, h .many) (sym (ordinary-is (following s i) (base s i) (pushed i) ws))
     finished-by (stores ws) h = rw (h .next, h .deep, h .first, h .many) (sym (ordinary-is (following s i) (i .operand .index) (placesOf (i .rule .locals)) ws))
     finished-by (divides by ws) h = go (eqb by 0)
       where
-        go : (t : Bool) → settled (s .«return_type») (caught l s (finishOf (l .code) (s .pc) i′ key (cond t Effect.Throw (Effect.Words (six ws))))) ≡ decision (cond t (thrownAt l s (s .pc)) (ordinary l s i (following s i) (base s i) (pushed i) ws))
-        go true = thrown-settled l s (s .pc)
+        go : (t : Bool) → settled (s .«return_type») (finishOf (l .code) (s .pc) i′ key (cond t Effect.Throw (Effect.Words (six ws)))) ≡ decision (cond t (thrownAt l s (s .pc)) (ordinary l s i (following s i) (base s i) (pushed i) ws))
+        go true = sym uncaught
         go false = rw (h .next, h .deep, h .first, h .many) (sym (ordinary-is (following s i) (base s i) (pushed i) ws))
     finished-by (branches t y) h = rw (h .next, h .deep, h .offset) (sym (ordinary-is (cond t (target s y) (following s i)) 0 0 []))
     finished-by (returns v) h = refl
@@ -138,16 +125,16 @@ module _ (l : Method) (s : State) (i : Instruction) (f : Sound (l .code) (s .pc)
         })
 
     -- once four words are what it works on
-    module _ (slots : List ℕ) (framed : frameCheck l s (length slots) ≡ passed tt) (at : fetched (l .code) (s .pc) ≡ passed i) (needed : needsCheck l s i ≡ passed tt) where
+    module _ (bare : l .handlers ≡ []) (slots : List ℕ) (framed : frameCheck l s (length slots) ≡ passed tt) (at : fetched (l .code) (s .pc) ≡ passed i) (needed : needsCheck l s i ≡ passed tt) where
       pub from-words : (a b c d : ℕ) → wordsAt (i .rule .reads) l s (frame s slots) i ≡ take (works (i .rule)) (a ∷ b ∷ c ∷ d ∷ [])
-          → settled (s .«return_type») (caught l s (finishOf (l .code) (s .pc) (locatedAt s i first depth) a (effectAt (sharedIn (entryAt i)) (low 32 (i .operand .constant)) a b c d))) ≡ decideOf l s slots
+          → settled (s .«return_type») (finishOf (l .code) (s .pc) (locatedAt s i first depth) a (effectAt (sharedIn (entryAt i)) (low 32 (i .operand .constant)) a b c d)) ≡ decideOf l s slots
       from-words a b c d w =
           let same : result l s (frame s slots) i ≡ doesFour (f .row) (i .operand) a b c d =
           ap (i .rule .does (i .operand)) w ∙ ap (λ (r : Rule). r .does (i .operand) (take (works r) (a ∷ b ∷ c ∷ d ∷ []))) (f .ruled) in
           let own : effectAt (sharedIn (entryAt i)) (low 32 (i .operand .constant)) a b c d ≡ effectOf (doesFour (f .row) (i .operand) a b c d) =
           rw shared-is (sym (own-effect (i .opcode) (f .row) (f .found) (i .operand .index) (low 32 (i .operand .constant)) (i .operand .pairs) a b c d)
           ∙ ap (λ (o : Operand). effectOf (doesFour (f .row) o a b c d)) operand-is) in
-          ap (λ (x : Effect). settled (s .«return_type») (caught l s (finishOf (l .code) (s .pc) (locatedAt s i first depth) a x))) own
-          ∙ finished-by l s i (locatedAt s i first depth) a (i .operand .constant) (doesFour (f .row) (i .operand) a b c d) (located a b c d)
+          ap (λ (x : Effect). settled (s .«return_type») (finishOf (l .code) (s .pc) (locatedAt s i first depth) a x)) own
+          ∙ finished-by l s i bare (locatedAt s i first depth) a (i .operand .constant) (doesFour (f .row) (i .operand) a b c d) (located a b c d)
           ∙ ap (λ (r : Result). decision (outcome l s i r)) (sym same)
           ∙ sym (decided l (length slots) s (frame s slots) framed i at needed)

@@ -8,3 +8,4 @@ mod Decision
 mod Sources
 mod Answers
 mod Taken
+mod Plain

@@ -79,15 +79,15 @@ module _ (l : Method) (s : State) (slots : List ℕ) (r : Reached) (e : r ≡ ad
 
 -- ---- the loop
 
--- its invariant: questions 1 to 3 stay passed, and the steps that are left lead where all of them lead
-pub record Going (l : Method) (slots₀ : List ℕ) (most : ℕ) (s₀ : State) (slots : List ℕ) (s : State) (n : ℕ) : Type 0 where
+-- its invariant, where some steps were taken before it: questions 1 to 3 stay passed, and the steps that are left lead where all of them lead
+pub record Going (l : Method) (slots₀ : List ℕ) (taken most : ℕ) (s₀ : State) (slots : List ℕ) (s : State) (n : ℕ) : Type 0 where
   pub upto : n ≤ most
   pub long : length slots ≡ length slots₀
   pub framed : frameCheck l s (length slots) ≡ passed tt
-  pub rest : advanceFrom l (most - n) n s slots ≡ advanceFrom l most 0 s₀ slots₀
+  pub rest : advanceFrom l (most - n) n s slots ≡ advanceFrom l (most - taken) taken s₀ slots₀
 
-module _ (l : Method) (slots₀ : List ℕ) (most : ℕ) (s₀ : State) (slots : List ℕ) (s : State) (n : ℕ) (g : Going l slots₀ most s₀ slots s n) where
-  pub turn : (n ≡ most → ⊥) → (u : Update) → decideOf l s slots ≡ Ordinary u → Going l slots₀ most s₀ (written u slots) (moved s (u .pc) (u .depth) 0) (n + 1)
+module _ (l : Method) (slots₀ : List ℕ) (taken most : ℕ) (s₀ : State) (slots : List ℕ) (s : State) (n : ℕ) (g : Going l slots₀ taken most s₀ slots s n) where
+  pub turn : (n ≡ most → ⊥) → (u : Update) → decideOf l s slots ≡ Ordinary u → Going l slots₀ taken most s₀ (written u slots) (moved s (u .pc) (u .depth) 0) (n + 1)
   turn h u e =
       let legal = ordinary-legal l s slots u e in
       let same = written-length l s slots u legal in
@@ -102,10 +102,10 @@ module _ (l : Method) (slots₀ : List ℕ) (most : ℕ) (s₀ : State) (slots :
             ∙ sym (advance-ordinary l n s slots (most - (n + 1)) u e) ∙ ap (λ (b : ℕ). advanceFrom l b n s slots) left ∙ g .rest;
       }
 
-  pub ends-there : (d : Decision) → settled (s .«return_type») d ≡ decideOf l s slots → Other d → stands s n slots (settled (s .«return_type») d) ≡ advanceFrom l most 0 s₀ slots₀
+  pub ends-there : (d : Decision) → settled (s .«return_type») d ≡ decideOf l s slots → Other d → stands s n slots (settled (s .«return_type») d) ≡ advanceFrom l (most - taken) taken s₀ slots₀
   ends-there d e o = sym (advance-other l n s slots (most - n) (settled (s .«return_type») d) (sym e) (settled-other (s .«return_type») d o)) ∙ g .rest
 
-  pub all-taken : n ≡ most → (d : Decision) → decideOf l s slots ≡ d → stands s n slots d ≡ advanceFrom l most 0 s₀ slots₀
+  pub all-taken : n ≡ most → (d : Decision) → decideOf l s slots ≡ d → stands s n slots d ≡ advanceFrom l (most - taken) taken s₀ slots₀
   all-taken h d e =
       let left : 0 ≡ most - n = omega arith in
       ap (stands s n slots) (sym e) ∙ sym (advance-none l n s slots) ∙ ap (λ (b : ℕ). advanceFrom l b n s slots) left ∙ g .rest

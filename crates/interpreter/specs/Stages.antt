@@ -110,7 +110,8 @@ readDecision code pc i (Read.Refused n) = Decision.Refused n
 unfoldable pub locatedDecision : List ℕ → List ℕ → List ℕ → List ℕ → ℕ → Located → Decision
 locatedDecision code kinds words slots pc i = readDecision code pc i (readOf kinds words slots (i .op) (i .index) (i .base))
 
--- a throw, which is not looked up in the handlers yet, by them
+-- ---- a throw, which a method without handlers does not catch, by the handlers
+
 abbrev pub caught : Method → State → Decision → Decision
 caught l s (Decision.Ordinary u) = Decision.Ordinary u
 caught l s (Decision.Return v) = Decision.Return v

@@ -1,4 +1,5 @@
 // One step, decided with nothing written: questions 1 to 10 in their order, what the instruction does, the handlers of a throw, and question 32 of a return.
+use crate::catching::ask_handlers;
 use crate::finishing::Located;
 use crate::finishing::finish;
 use crate::finishing::locate;
@@ -8,7 +9,6 @@ use effects::effect;
 use frame::Placed;
 use frame::check_frame;
 use frame::place;
-use handlers::throw_at;
 use instructions::Decoded;
 use instructions::decode;
 use return_types::settle;
@@ -17,6 +17,7 @@ use rules::Decision;
 use rules::State;
 ghost use mathlib.Core.Path.{_≡_};
 ghost use mathlib.Core.Bool.{true};
+ghost use mathlib.Core.List.{[]};
 ghost use Prim.Native.Nat.{_≤_};
 ghost use lib.ListN.{length};
 ghost use Rattle.instructions.specs.Table.{isIn};
@@ -27,7 +28,7 @@ ghost use Rattle.rules.specs.Step.{decideOf};
 ghost use Rattle.return_types.specs.Settled.{settled};
 ghost use Rattle.interpreter.specs.Stages.{locatedDecision};
 
-// Question 9, what the instruction does, and question 10; a throw is not looked up in the handlers yet.
+// Question 9, what the instruction does, and question 10.
 fn decide_located(
     code: &[u8],
     kinds: &[u8],
@@ -50,17 +51,16 @@ fn decide_located(
     }
 }
 
-// Questions 4 to 10, where questions 1 to 3 have passed; a return is not asked question 32 yet.
+// Questions 4 to 10 of a method without handlers, where questions 1 to 3 have passed; a return is not asked question 32 yet.
 pub(crate) fn decide_framed(
     code: &[u8],
     kinds: &[u8],
     words: &[u32],
-    handlers: &[u8],
     slots: &[u32],
     s: State,
 ) -> Decision
-    requires { ⌜ frameCheck (method (now code) (now kinds) (now words) (now handlers)) s (length (now slots)) ≡ passed tt ⌝ }
-    ensures { λ r. ⌜ settled (s .«return_type») r ≡ decideOf (method (now (code .entry)) (now (kinds .entry)) (now (words .entry)) (now (handlers .entry))) s (now (slots .entry)) ⌝ }
+    requires { ⌜ frameCheck (method (now code) (now kinds) (now words) []) s (length (now slots)) ≡ passed tt ⌝ }
+    ensures { λ r. ⌜ settled (s .«return_type») r ≡ decideOf (method (now (code .entry)) (now (kinds .entry)) (now (words .entry)) []) s (now (slots .entry)) ⌝ }
 {
     let pc = s.pc;
     let decoded = decode(code, pc);
@@ -78,11 +78,7 @@ pub(crate) fn decide_framed(
                 Placed::At { base, depth } => {
                     let next = pc as usize + size;
                     let i = locate(entry, index, constant, next, base, depth);
-                    let decision = decide_located(code, kinds, words, slots, pc, i);
-                    let Decision::Throw = decision else {
-                        return decision;
-                    };
-                    throw_at(code, kinds, words, handlers, s, pc)
+                    decide_located(code, kinds, words, slots, pc, i)
                 }
             }
         }
@@ -104,7 +100,8 @@ pub fn decide(
     match asked {
         Checked::Refused(n) => Decision::Refused(n),
         Checked::Passed => {
-            let decision = decide_framed(code, kinds, words, handlers, slots, s);
+            let decision = decide_framed(code, kinds, words, slots, s);
+            let decision = ask_handlers(code, kinds, words, handlers, s, decision);
             settle(s.return_type, decision)
         }
     }

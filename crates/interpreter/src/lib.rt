@@ -1,5 +1,6 @@
 // The interpreter loop (interpreter.rs): one step decided, one step taken, and a run of steps.
 mod advancing;
+mod catching;
 mod deciding;
 mod finishing;
 mod reading;

@@ -1,14 +1,13 @@
 -- `decide_framed` meets its contract. Assumes nothing.
-use mathlib.Core.Path.{_≡_, sym, ap, _∙_}
+use mathlib.Core.Path.{refl, sym, ap, _∙_}
+use mathlib.Core.List.{[]}
 use native.Mathlib.Omega.{arith}
 use denote.Ref.{now}
-use Rattle.rules.specs.declared.Decision.{Decision}
 use Rattle.rules.specs.Questions.{method}
-use Rattle.rules.specs.Step.{decideOf}
 use Rattle.rules.proofs.Questions.{framed}
 use Rattle.return_types.specs.Settled.{settled}
-use Rattle.interpreter.specs.Stages.{locatedOf, caught}
-use Rattle.interpreter.proofs.Answers.{decodes, by-fetch, by-needs, by-located, caught-other, next-small, in-table}
+use Rattle.interpreter.specs.Stages.{locatedOf}
+use Rattle.interpreter.proofs.Answers.{decodes, by-fetch, by-needs, by-located, next-small, in-table}
 use borrow.Author.Needs.{needs}
 use Rattle.interpreter.proofs.deciding.decide_framed.Statement.{statement}
 use Rattle.interpreter.proofs.deciding.decide_framed.Tie as tie
@@ -36,9 +35,9 @@ cast-next c = search needs
 
 add-next : tie.Need-add-next
 add-next c =
-    let a = c .before .before .before .before .before .before .before .before .before .before .before .before .before .args in
-    let l = method (now (a .code)) (now (a .kinds)) (now (a .words)) (now (a .handlers)) in
-    let f = c .before .before .before .before .before .before .before .before .before .before .before .before .before .pre in
+    let a = c .before .before .before .before .before .before .before .before .before .before .before .before .args in
+    let l = method (now (a .code)) (now (a .kinds)) (now (a .words)) [] in
+    let f = c .before .before .before .before .before .before .before .before .before .before .before .before .pre in
     let d = decodes (l .code) (a .s .pc) _ _ _ _ (sym (c .before .before .before .before .before .decoded2 .given .1) ∙ c .before .before .before .before .before .before .before .decode .ensures) in
     omega (arith, next-small l (a .s) (now (a .slots)) f _ _ _ _ d)
 
@@ -48,57 +47,34 @@ locate-requires c κs = search needs
 decide-located-requires : tie.Need-decide-located-requires
 unfolding locatedOf
 decide-located-requires c κs =
-    let a = c .before .before .before .before .before .before .before .before .before .before .before .before .before .before .args in
-    let l = method (now (a .code)) (now (a .kinds)) (now (a .words)) (now (a .handlers)) in
-    let f = c .before .before .before .before .before .before .before .before .before .before .before .before .before .before .pre in
+    let a = c .before .before .before .before .before .before .before .before .before .before .before .before .before .args in
+    let l = method (now (a .code)) (now (a .kinds)) (now (a .words)) [] in
+    let f = c .before .before .before .before .before .before .before .before .before .before .before .before .before .pre in
     let d = decodes (l .code) (a .s .pc) _ _ _ _ (sym (c .before .before .before .before .before .before .decoded2 .given .1) ∙ c .before .before .before .before .before .before .before .before .decode .ensures) in
     rw (c .locate .ensures) (framed l (a .s) _ f .short-code, in-table l (a .s) (now (a .slots)) f _ _ _ _ d)
 
--- what was decided before the handlers were asked, by the rules
-located-decides : (c : tie.After-decide-located)
-    → let a = c .before .before .before .before .before .before .before .before .before .before .before .before .before .before .before .args in
-    let l = method (now (a .code)) (now (a .kinds)) (now (a .words)) (now (a .handlers)) in
-    settled (a .s .«return_type») (caught l (a .s) (c .decide-located .result)) ≡ decideOf l (a .s) (now (a .slots))
-located-decides c =
-    let a = c .before .before .before .before .before .before .before .before .before .before .before .before .before .before .before .args in
-    let l = method (now (a .code)) (now (a .kinds)) (now (a .words)) (now (a .handlers)) in
-    let f = c .before .before .before .before .before .before .before .before .before .before .before .before .before .before .before .pre in
-    let d = decodes (l .code) (a .s .pc) _ _ _ _ (sym (c .before .before .before .before .before .before .before .decoded2 .given .1) ∙ c .before .before .before .before .before .before .before .before .before .decode .ensures) in
-    ap (λ (x : Decision). settled (a .s .«return_type») (caught l (a .s) x)) (c .decide-located .ensures)
-    ∙ rw (c .before .locate .ensures) (by-located l (a .s) (now (a .slots)) f _ _ _ _ d _ _ (sym (c .before .before .before .placed2 .given .1) ∙ c .before .before .before .before .before .place .ensures))
-
-enum-told : tie.Need-enum-told
-enum-told c = search needs
-
 returns : tie.Need-returns
 returns c =
-    let a = c .before .before .before .before .before .before .before .before .before .before .before .before .before .before .before .before .args in
-    let l = method (now (a .code)) (now (a .kinds)) (now (a .words)) (now (a .handlers)) in
-    ap (settled (a .s .«return_type»)) (sym (caught-other l (a .s) (c .before .decide-located .result) (c .match3 .keys2))) ∙ located-decides (c .before)
-
-throw-at-requires : tie.Need-throw-at-requires
-throw-at-requires c κs = search needs
+    let a = c .before .before .before .before .before .before .before .before .args in
+    let l = method (now (a .code)) (now (a .kinds)) (now (a .words)) [] in
+    let f = c .before .before .before .before .before .before .before .before .pre in
+    sym (by-fetch l (a .s) (now (a .slots)) f _ (sym (c .before .decoded .given .1) ∙ c .before .before .before .decode .ensures))
 
 returns-2 : tie.Need-returns-2
 returns-2 c =
-    let a = c .before .before .before .before .before .before .before .before .before .args in
-    let l = method (now (a .code)) (now (a .kinds)) (now (a .words)) (now (a .handlers)) in
-    let f = c .before .before .before .before .before .before .before .before .before .pre in
-    sym (by-fetch l (a .s) (now (a .slots)) f _ (sym (c .before .decoded .given .1) ∙ c .before .before .before .decode .ensures))
-
-returns-3 : tie.Need-returns-3
-returns-3 c =
-    let a = c .before .before .before .before .before .before .before .before .before .before .before .before .before .args in
-    let l = method (now (a .code)) (now (a .kinds)) (now (a .words)) (now (a .handlers)) in
-    let f = c .before .before .before .before .before .before .before .before .before .before .before .before .before .pre in
+    let a = c .before .before .before .before .before .before .before .before .before .before .before .before .args in
+    let l = method (now (a .code)) (now (a .kinds)) (now (a .words)) [] in
+    let f = c .before .before .before .before .before .before .before .before .before .before .before .before .pre in
     let d = decodes (l .code) (a .s .pc) _ _ _ _ (sym (c .before .before .before .before .before .decoded2 .given .1) ∙ c .before .before .before .before .before .before .before .decode .ensures) in
     sym (by-needs l (a .s) (now (a .slots)) f _ _ _ _ d _ (sym (c .before .placed .given .1) ∙ c .before .before .before .place .ensures))
 
-returns-4 : tie.Need-returns-4
-returns-4 c =
-    let a = c .before .before .before .before .before .before .before .before .before .before .before .before .before .before .before .before .before .before .args in
-    let l = method (now (a .code)) (now (a .kinds)) (now (a .words)) (now (a .handlers)) in
-    ap (settled (a .s .«return_type»)) (c .throw-at .ensures ∙ sym (ap (caught l (a .s)) (c .before .enum-told .given .1))) ∙ located-decides (c .before .before .before)
+returns-3 : tie.Need-returns-3
+returns-3 c =
+    let a = c .before .before .before .before .before .before .before .before .before .before .before .before .before .before .args in
+    let l = method (now (a .code)) (now (a .kinds)) (now (a .words)) [] in
+    let f = c .before .before .before .before .before .before .before .before .before .before .before .before .before .before .pre in
+    let d = decodes (l .code) (a .s .pc) _ _ _ _ (sym (c .before .before .before .before .before .before .before .decoded2 .given .1) ∙ c .before .before .before .before .before .before .before .before .before .decode .ensures) in
+    ap (settled (a .s .«return_type»)) (c .decide-located .ensures) ∙ rw (c .before .locate .ensures) (by-located l (a .s) (now (a .slots)) f _ _ _ _ d refl _ _ (sym (c .before .before .before .placed2 .given .1) ∙ c .before .before .before .before .before .place .ensures))
 
 pub decide-framed-spec : {M : Type 1} → statement M
 decide-framed-spec =
@@ -114,9 +90,6 @@ decide-framed-spec =
     add-next
     locate-requires
     decide-located-requires
-    enum-told
     returns
-    throw-at-requires
     returns-2
-    returns-3
-    returns-4)
+    returns-3)
