@@ -13,7 +13,7 @@
 
 #include "workbook.h"
 
-enum { GUARD = 4, SHEET = 64, SLOTS = 8, POOL = 6, ENTRIES = 6, LIST = 9 };
+enum { GUARD = 4, SHEET = 96, SLOTS = 8, POOL = 6, HANDLERS = 30, ENTRIES = 6, LIST = 9 };
 
 struct memory {
     uint32_t slots[GUARD + SLOTS + GUARD];
@@ -24,6 +24,7 @@ struct memory {
     uint32_t answers[GUARD + LIST * WORKBOOK_PRESS_WORDS + GUARD];
     uint8_t sheet[GUARD + SHEET + GUARD];
     uint8_t kinds[GUARD + POOL + GUARD];
+    uint8_t handlers[GUARD + HANDLERS + GUARD];
     uint8_t presses[GUARD + LIST + GUARD];
 };
 
@@ -43,19 +44,21 @@ struct words {
     size_t len;
 };
 static struct {
-    struct bytes sheet, code, kinds, presses;
+    struct bytes sheet, code, kinds, handlers, presses;
     struct words words, slots, log, state, answer, answers;
 } lent;
 
 #define OF(part) lent.part.at, lent.part.len
-#define METHOD OF(code), OF(kinds), OF(words), OF(slots)
+#define METHOD OF(code), OF(kinds), OF(words)
 
 static uint32_t load(void) { return workbook_load(OF(sheet), OF(slots), OF(kinds), OF(words), OF(state), OF(answer)); }
-static uint32_t step(void) { return workbook_step(METHOD, OF(state), OF(answer)); }
-static uint32_t forward(void) { return workbook_forward(METHOD, OF(log), OF(state), OF(answer)); }
-static uint32_t back(void) { return workbook_back(METHOD, OF(log), OF(state)); }
-static uint32_t run(uint64_t budget) { return workbook_run(METHOD, OF(state), OF(answer), budget); }
-static uint32_t presses(void) { return workbook_presses(METHOD, OF(log), OF(state), OF(presses), OF(answers)); }
+static uint32_t step(void) { return workbook_step(METHOD, OF(handlers), OF(slots), OF(state), OF(answer)); }
+static uint32_t forward(void) { return workbook_forward(METHOD, OF(handlers), OF(slots), OF(log), OF(state), OF(answer)); }
+static uint32_t back(void) { return workbook_back(METHOD, OF(slots), OF(log), OF(state)); }
+static uint32_t run(uint64_t budget) { return workbook_run(METHOD, OF(handlers), OF(slots), OF(state), OF(answer), budget); }
+static uint32_t presses(void) {
+    return workbook_presses(METHOD, OF(handlers), OF(slots), OF(log), OF(state), OF(presses), OF(answers));
+}
 
 static int checks, failed;
 
@@ -85,7 +88,7 @@ static void expect(int line, uint32_t got, uint32_t wanted) {
 /* State and answer words that are lent past the seventh and the fourth. They are guard words. */
 static size_t extra;
 
-/* All memory filled with A5, then some bytes as sheet and as code. */
+/* All memory filled with A5, then some bytes as sheet and as code. Handlers of A5 cover no offset: start is end. */
 static void lend(const uint8_t *bytes, size_t size) {
     memset(&have, 0xA5, sizeof have);
     memcpy(HAVE(sheet), bytes, size);
@@ -95,6 +98,8 @@ static void lend(const uint8_t *bytes, size_t size) {
     lent.kinds.at = HAVE(kinds);
     lent.words.at = HAVE(words);
     lent.kinds.len = lent.words.len = POOL;
+    lent.handlers.at = HAVE(handlers);
+    lent.handlers.len = HANDLERS;
     lent.slots.at = HAVE(slots);
     lent.slots.len = SLOTS;
     lent.log.at = HAVE(log);
@@ -158,14 +163,19 @@ static const uint8_t full[] = {
     'K', 'I', 0, 11, 0, 2, 5, 0x21, 0x22, 0x23, 0x24, 0x25, 0x26, 0x27, 0x28,
     'A', 'R', 0, 8, 0x31, 0x32, 0x33, 0x34, 0x41, 0x42, 0x43, 0x44};
 
-/* A load that is to be accepted, with its code of some bytes at an offset. The caller has said what it wants of slots, pool
-   and the rest of the state. */
-static void load_it(int line, uint32_t return_type, uint32_t offset, uint32_t size) {
+/* A load that is to be accepted, with its code of some bytes at an offset, and with some handlers, which end where the record
+   of the argument words begins. The caller has said what it wants of slots, pool and the rest of the state. */
+static void load_it(int line, uint32_t return_type, uint32_t offset, uint32_t size, uint32_t handlers, uint32_t arguments) {
+    const uint32_t handlers_size = handlers * WORKBOOK_HANDLER_BYTES;
     WANT(state)[WORKBOOK_RETURN_TYPE] = return_type;
     want_answer(offset, size);
+    WANT(answer)[2] = (uint32_t)lent.sheet.len - 4 - 4 * arguments - handlers_size;
+    WANT(answer)[3] = handlers_size;
     expect(line, load(), WORKBOOK_OK);
     lent.code.at = lent.sheet.at + HAVE(answer)[0];
     lent.code.len = HAVE(answer)[1];
+    lent.handlers.at = lent.sheet.at + HAVE(answer)[2];
+    lent.handlers.len = HAVE(answer)[3];
 }
 
 static void load_printed(void) {
@@ -174,7 +184,7 @@ static void load_printed(void) {
     memset(WANT(words), 0, POOL * sizeof(uint32_t));
     memset(WANT(slots), 0, 2 * sizeof(uint32_t));
     want_state(2, 0, 0, 0, 0);
-    load_it(__LINE__, 0, 12, 4);
+    load_it(__LINE__, 0, 12, 4, 0, 0);
 }
 
 static void load_full(void) {
@@ -190,7 +200,7 @@ static void load_full(void) {
     WANT(slots)[0] = 0x31323334;
     WANT(slots)[1] = 0x41424344;
     want_state(4, 3, 0, 0, 0);
-    load_it(__LINE__, 0, 12, 4);
+    load_it(__LINE__, 0, 12, 4, 0, 2);
 }
 
 /* A method that no sheet was loaded for, at its start, with different words in all slots. Its return type stays A5A5A5A5,
@@ -207,7 +217,7 @@ static void check_load(void) {
     static const struct {
         uint32_t number;
         size_t size;
-        uint8_t bytes[24];
+        uint8_t bytes[28];
     } bad[] = {
         {WORKBOOK_SHEET_CUT, 7, {'L', 'M', 0, 4, 0, 2, 0}},
         {WORKBOOK_SHEET_CUT, 3, {'L', 'M', 0}},
@@ -217,6 +227,10 @@ static void check_load(void) {
         {WORKBOOK_SHEET_ORDER, 5, {'C', 'D', 0, 1, 0}},
         {WORKBOOK_SHEET_LENGTH, 7, {'L', 'M', 0, 3, 0, 2, 0}},
         {WORKBOOK_SHEET_CONSTANT, 24, {'L', 'M', 0, 4, 0, 2, 0, 0, 'C', 'D', 0, 1, 0, 'K', 'I', 0, 7, 0, 1, 5, 0, 0, 0, 0}},
+        /* A class has one word, 0 or 1. */
+        {WORKBOOK_SHEET_CONSTANT, 24, {'L', 'M', 0, 4, 0, 2, 0, 0, 'C', 'D', 0, 1, 0, 'K', 'I', 0, 7, 0, 1, 7, 0, 0, 0, 2}},
+        {WORKBOOK_SHEET_CONSTANT, 24, {'L', 'M', 0, 4, 0, 2, 0, 0, 'C', 'D', 0, 1, 0, 'K', 'I', 0, 7, 0, 1, 7, 1, 0, 0, 1}},
+        {WORKBOOK_SHEET_CONSTANT, 28, {'L', 'M', 0, 4, 0, 2, 0, 0, 'C', 'D', 0, 1, 0, 'K', 'I', 0, 11, 0, 1, 7, 0, 0, 0, 1}},
         {WORKBOOK_SHEET_ARGUMENTS, 21, {'L', 'M', 0, 4, 0, 2, 0, 0, 'C', 'D', 0, 1, 0, 'A', 'R', 0, 4, 0, 0, 0, 0}},
     };
     size_t i;
@@ -478,7 +492,7 @@ static void check_limits(void) {
     lent.kinds.len = lent.words.len = 65536;
     memset(WANT(slots), 0, 2 * sizeof(uint32_t));
     want_state(2, 0, 0, 0, 0);
-    load_it(__LINE__, 0, 12, 4);
+    load_it(__LINE__, 0, 12, 4, 0, 0);
     for (i = 0; i < 65536 && kinds[i] == 0 && words[i] == 0; i++) {
     }
     check(i == 65536, __LINE__, "pool cleared", (unsigned long)i, 65536);
@@ -714,7 +728,7 @@ static void load_descriptor(const char *descriptor, uint32_t value, size_t argum
     WANT(kinds)[1] = 3;
     WANT(words)[1] = value;
     want_state(2, 1, 0, 0, 0);
-    load_it(__LINE__, return_type, descriptor ? 12 + 4 + (uint32_t)strlen(descriptor) : 12, 3);
+    load_it(__LINE__, return_type, descriptor ? 12 + 4 + (uint32_t)strlen(descriptor) : 12, 3, 0, (uint32_t)arguments);
 }
 
 /* DS: good ones, bad ones, its place, and the order of the questions. */
@@ -871,6 +885,266 @@ static void check_return_types(void) {
     EXPECT(step(), WORKBOOK_REFUSED_POP);
 }
 
+#define BYTES_OF(number) (uint8_t)((number) >> 8), (uint8_t)(number)
+/* An EX record, which is an entry of an exception table. */
+#define EX(start, end, handler, type) 'E', 'X', 0, 8, BYTES_OF(start), BYTES_OF(end), BYTES_OF(handler), BYTES_OF(type)
+
+/* ICONST_3, ICONST_5, ICONST_0, IDIV, IRETURN, and from 5 on ASTORE_0, ICONST_M1, IRETURN. */
+static const uint8_t dividing[] = {0x06, 0x08, 0x03, 0x6C, 0xAC, 0x4B, 0x02, 0xAC};
+enum { DIVISION = 3, HANDLER = 5 };
+
+/* That code in a sheet of three stack places and one local, with an int at 1, a class at 2 to which no ArithmeticException
+   can be assigned, one at 3 to which it can, and records between these and AR. */
+static void lend_records(const uint8_t *records, size_t records_size) {
+    static const uint8_t first[] = {'L', 'M', 0, 4, 0, 3, 0, 1, 'C', 'D', 0, sizeof dividing}, last[] = {'A', 'R', 0, 0};
+    static const uint8_t pool[] = {'K', 'I', 0, 7, 0, 1, 3, 0, 0, 0, 1, 'K', 'I', 0, 7, 0, 2, 7, 0, 0, 0, 0,
+                                   'K', 'I', 0, 7, 0, 3, 7, 0, 0, 0, 1};
+    uint8_t bytes[SHEET];
+    size_t size = 0;
+
+    size = append(bytes, size, first, sizeof first);
+    size = append(bytes, size, dividing, sizeof dividing);
+    size = append(bytes, size, pool, sizeof pool);
+    size = append(bytes, size, records, records_size);
+    size = append(bytes, size, last, sizeof last);
+    lend(bytes, size);
+}
+
+/* That sheet, loaded with good EX records. */
+static void load_handlers(int line, const uint8_t *records, size_t records_size) {
+    static const uint8_t kinds[POOL] = {0, 3, 7, 7};
+    static const uint32_t words[POOL] = {0, 1, 0, 1};
+
+    lend_records(records, records_size);
+    memcpy(WANT(kinds), kinds, sizeof kinds);
+    memcpy(WANT(words), words, sizeof words);
+    memset(WANT(slots), 0, 4 * sizeof(uint32_t));
+    want_state(3, 1, 0, 0, 0);
+    load_it(line, 0, 12, sizeof dividing, (uint32_t)records_size / WORKBOOK_HANDLER_BYTES, 0);
+}
+
+/* EX: good ones at their limits, bad ones, their place, and the order of the questions. */
+static void check_handler_records(void) {
+    static const uint8_t good[][2 * WORKBOOK_HANDLER_BYTES] = {
+        {EX(0, 8, 7, 0), EX(7, 8, 0, 2)},
+        {EX(0, 1, 0, 3), EX(0, 1, 0, 3)},
+    };
+    static const struct {
+        uint32_t number;
+        size_t size;
+        uint8_t bytes[24];
+    } bad[] = {
+        {WORKBOOK_SHEET_HANDLER, 4, {'E', 'X', 0, 0}},
+        {WORKBOOK_SHEET_HANDLER, 11, {'E', 'X', 0, 7, 0, 0, 0, 8, 0, 5, 0}},
+        {WORKBOOK_SHEET_HANDLER, 13, {'E', 'X', 0, 9, 0, 0, 0, 8, 0, 5, 0, 0, 0}},
+        {WORKBOOK_SHEET_HANDLER, 12, {EX(3, 3, 5, 0)}},
+        {WORKBOOK_SHEET_HANDLER, 12, {EX(4, 3, 5, 0)}},
+        {WORKBOOK_SHEET_HANDLER, 12, {EX(8, 9, 5, 0)}},
+        {WORKBOOK_SHEET_HANDLER, 12, {EX(0, 9, 5, 0)}},
+        {WORKBOOK_SHEET_HANDLER, 12, {EX(0, 8, 8, 0)}},
+        {WORKBOOK_SHEET_HANDLER, 12, {EX(0, 8, 256, 0)}},
+        /* Catch types: an int, an index that has nothing, and one past the pool that is lent. */
+        {WORKBOOK_SHEET_HANDLER, 12, {EX(0, 8, 5, 1)}},
+        {WORKBOOK_SHEET_HANDLER, 12, {EX(0, 8, 5, 4)}},
+        {WORKBOOK_SHEET_HANDLER, 12, {EX(0, 8, 5, 65535)}},
+        /* A good one before it; a constant after it, which is wrong there. */
+        {WORKBOOK_SHEET_HANDLER, 24, {EX(0, 8, 5, 0), EX(0, 8, 8, 0)}},
+        {WORKBOOK_SHEET_HANDLER, 23, {EX(0, 8, 8, 0), 'K', 'I', 0, 7, 0, 4, 3, 0, 0, 0, 0}},
+        {WORKBOOK_SHEET_ORDER, 23, {EX(0, 8, 5, 0), 'K', 'I', 0, 7, 0, 4, 3, 0, 0, 0, 0}},
+        /* A second AR follows. */
+        {WORKBOOK_SHEET_ORDER, 16, {'A', 'R', 0, 0, EX(0, 8, 5, 0)}},
+        {WORKBOOK_SHEET_CUT, 7, {'E', 'X', 0, 8, 0, 0, 0}},
+        {WORKBOOK_SHEET_MARK, 12, {'E', 'x', 0, 8, 0, 0, 0, 8, 0, 5, 0, 0}},
+    };
+    static const uint8_t early[] = {'L', 'M', 0, 4, 0, 3, 0, 1, EX(0, 1, 0, 0), 'C', 'D', 0, 1, 0xB1, 'A', 'R', 0, 0};
+    size_t i;
+
+    load_handlers(__LINE__, good[0], 0);
+    for (i = 0; i < COUNT_OF(good); i++) {
+        load_handlers(__LINE__, good[i], WORKBOOK_HANDLER_BYTES);
+        load_handlers(__LINE__, good[i], sizeof good[i]);
+    }
+    for (i = 0; i < COUNT_OF(bad); i++) {
+        lend_records(bad[i].bytes, bad[i].size);
+        EXPECT(load(), bad[i].number);
+        lent.answer.len = WORKBOOK_ANSWER_WORDS - 1;
+        EXPECT(load(), bad[i].number);
+    }
+    lend(early, sizeof early);
+    EXPECT(load(), WORKBOOK_SHEET_ORDER);
+    lend(early + 8, WORKBOOK_HANDLER_BYTES);
+    EXPECT(load(), WORKBOOK_SHEET_ORDER);
+}
+
+/* The ordinary steps of that sheet where the division is caught: the entry in the log, the pc and depth reached, and the
+   word written. */
+static const struct {
+    uint32_t entry[WORKBOOK_LOG_WORDS], pc, depth, word;
+} caught[ENTRIES] = {
+    {{0, 0, 1, 1, 0}, 1, 1, 3},
+    {{1, 1, 2, 1, 0}, 2, 2, 5},
+    {{2, 2, 3, 1, 0}, 3, 3, 0},
+    {{DIVISION, 3, 1, 1, 3}, HANDLER, 1, 1},
+    {{5, 1, 0, 1, 0}, 6, 0, 1},
+    {{6, 0, 1, 1, 1}, 7, 1, 0xFFFFFFFF},
+};
+
+static void want_caught(size_t n, uint64_t count) {
+    WANT(slots)[caught[n].entry[2]] = caught[n].word;
+    want_state(3, 1, caught[n].pc, caught[n].depth, count);
+}
+static void want_caught_logged(size_t n) {
+    want_caught(n, n + 1);
+    memcpy(WANT(log) + n * WORKBOOK_LOG_WORDS, caught[n].entry, sizeof caught[n].entry);
+}
+
+/* A division that a handler of the sheet catches, by steps, forward and back, a run and a list; and that nothing catches. */
+static void check_caught_walk(void) {
+    static const uint8_t record[] = {EX(2, 4, HANDLER, 3)};
+    static const uint8_t list[] = {1, 1, 1, 1, 1, 1, 1, 0, 0};
+    size_t i;
+
+    load_handlers(__LINE__, record, sizeof record);
+    for (i = 0; i < ENTRIES; i++) {
+        want_caught(i, 0);
+        EXPECT(step(), WORKBOOK_OK);
+    }
+    want_answer(0xFFFFFFFF, 0);
+    EXPECT(step(), WORKBOOK_RETURN_INT);
+
+    load_handlers(__LINE__, record, sizeof record);
+    for (i = 0; i < ENTRIES; i++) {
+        want_caught_logged(i);
+        EXPECT(forward(), WORKBOOK_OK);
+    }
+    for (i = ENTRIES; i-- > 0;) {
+        WANT(slots)[caught[i].entry[2]] = caught[i].entry[4];
+        want_state(3, 1, caught[i].entry[0], caught[i].entry[1], i);
+        EXPECT(back(), WORKBOOK_OK);
+    }
+    for (i = 0; i < ENTRIES; i++) want_caught(i, 0);
+    want_ran(0xFFFFFFFF, 0, ENTRIES);
+    EXPECT(run(9), WORKBOOK_RETURN_INT);
+
+    /* Six steps, the return, and two steps back: the handler's second instruction comes next. */
+    load_handlers(__LINE__, record, sizeof record);
+    put_presses(list, sizeof list);
+    for (i = 0; i < ENTRIES; i++) want_caught_logged(i);
+    WANT(slots)[0] = 0, WANT(slots)[1] = 1;
+    want_state(3, 1, HANDLER, 1, 4);
+    for (i = 0; i < sizeof list; i++) want_press(i, 0, 0, 0);
+    want_press(ENTRIES, WORKBOOK_RETURN_INT, 0xFFFFFFFF, 0);
+    EXPECT(presses(), WORKBOOK_OK);
+
+    /* The same sheet, with no handlers lent. */
+    load_handlers(__LINE__, record, sizeof record);
+    lent.handlers.len = 0;
+    for (i = 0; i < DIVISION; i++) want_caught(i, 0);
+    want_ran(0, 0, DIVISION);
+    EXPECT(run(9), WORKBOOK_THROW_ARITHMETIC);
+    EXPECT(step(), WORKBOOK_THROW_ARITHMETIC);
+    EXPECT(forward(), WORKBOOK_THROW_ARITHMETIC);
+}
+
+/* Stands at the division of 102 by 0, over 101, with a pool in which 3 and 5 take the exception, and with these handlers. */
+static void lend_entries(const uint8_t *entries, size_t size) {
+    static const uint8_t kinds[POOL] = {7, 3, 7, 7, 7, 7};
+    static const uint32_t words[POOL] = {0, 1, 0, 1, 0x101, 1};
+
+    lend_code(dividing, sizeof dividing, 3, 1);
+    memcpy(HAVE(kinds), kinds, sizeof kinds);
+    memcpy(HAVE(words), words, sizeof words);
+    memcpy(HAVE(handlers), entries, size);
+    lent.handlers.len = size;
+    put(HAVE(slots), 3, 0);
+    put(HAVE(state), WORKBOOK_PC, DIVISION);
+    put(HAVE(state), WORKBOOK_DEPTH, 3);
+}
+
+static void want_at_handler(uint32_t handler, uint64_t count) {
+    WANT(slots)[1] = 1;
+    want_state(3, 1, handler, 1, count);
+}
+
+/* The division by every function: an ordinary step to the handler where the number is 0, and else that number. */
+static void divide(const uint8_t *entries, size_t size, uint32_t number, uint32_t handler) {
+    static const uint32_t entry[WORKBOOK_LOG_WORDS] = {DIVISION, 3, 1, 1, 101};
+    static const uint8_t list[] = {WORKBOOK_PRESS_FORWARD, WORKBOOK_PRESS_BACK};
+    const int ordinary = number == WORKBOOK_OK;
+
+    lend_entries(entries, size);
+    if (ordinary) want_at_handler(handler, 0);
+    EXPECT(step(), number);
+
+    lend_entries(entries, size);
+    if (ordinary) want_at_handler(handler, 1), memcpy(WANT(log), entry, sizeof entry);
+    EXPECT(forward(), number);
+    if (ordinary) WANT(slots)[1] = 101, want_state(3, 1, DIVISION, 3, 0);
+    EXPECT(back(), ordinary ? WORKBOOK_OK : WORKBOOK_REFUSED_START);
+
+    put_presses(list, sizeof list);
+    want_press(0, number, 0, 0);
+    want_press(1, ordinary ? WORKBOOK_OK : WORKBOOK_REFUSED_START, 0, 0);
+    EXPECT(presses(), WORKBOOK_OK);
+
+    if (ordinary) want_at_handler(handler, 0);
+    want_ran(0, 0, (uint64_t)ordinary);
+    EXPECT(run(1), ordinary ? WORKBOOK_STOPPED : number);
+}
+
+/* Handlers that no load gave: which entry covers the division and takes the exception, and where it leads. */
+static void check_entries(void) {
+    static const struct {
+        uint32_t number, handler;
+        size_t size;
+        uint8_t bytes[HANDLERS];
+    } tables[] = {
+        /* Start is included and end is not; both have 16 bits. */
+        {WORKBOOK_OK, 5, 12, {EX(3, 4, 5, 0)}},
+        {WORKBOOK_OK, 7, 12, {EX(0, 65535, 7, 0)}},
+        {WORKBOOK_OK, 5, 12, {EX(0, 256, 5, 0)}},
+        {WORKBOOK_THROW_ARITHMETIC, 0, 12, {EX(0, 3, 5, 0)}},
+        {WORKBOOK_THROW_ARITHMETIC, 0, 12, {EX(4, 8, 5, 0)}},
+        {WORKBOOK_THROW_ARITHMETIC, 0, 12, {EX(3, 3, 5, 0)}},
+        {WORKBOOK_THROW_ARITHMETIC, 0, 12, {EX(256, 512, 5, 0)}},
+        /* Catch types: 3 and 5 take; an int, a word of 0 or 101, and an index past the pool do not. */
+        {WORKBOOK_OK, 5, 12, {EX(0, 8, 5, 3)}},
+        {WORKBOOK_OK, 5, 12, {EX(0, 8, 5, 5)}},
+        {WORKBOOK_THROW_ARITHMETIC, 0, 12, {EX(0, 8, 5, 1)}},
+        {WORKBOOK_THROW_ARITHMETIC, 0, 12, {EX(0, 8, 5, 2)}},
+        {WORKBOOK_THROW_ARITHMETIC, 0, 12, {EX(0, 8, 5, 4)}},
+        {WORKBOOK_THROW_ARITHMETIC, 0, 12, {EX(0, 8, 5, 6)}},
+        {WORKBOOK_THROW_ARITHMETIC, 0, 12, {EX(0, 8, 5, 0x300)}},
+        {WORKBOOK_THROW_ARITHMETIC, 0, 12, {EX(0, 8, 5, 65535)}},
+        /* The first that covers and takes wins, also where its handler is outside of the code. */
+        {WORKBOOK_OK, 6, 24, {EX(0, 8, 6, 0), EX(3, 4, 5, 3)}},
+        {WORKBOOK_OK, 5, 24, {EX(0, 3, 6, 0), EX(3, 4, 5, 3)}},
+        {WORKBOOK_OK, 5, 24, {EX(0, 8, 6, 2), EX(0, 8, 5, 3)}},
+        {WORKBOOK_OK, 0, 12, {EX(0, 8, 0, 0)}},
+        {WORKBOOK_REFUSED_NEXT_PC, 0, 12, {EX(0, 8, 8, 0)}},
+        {WORKBOOK_REFUSED_NEXT_PC, 0, 12, {EX(0, 8, 0x500, 0)}},
+        {WORKBOOK_REFUSED_NEXT_PC, 0, 24, {EX(0, 8, 65535, 0), EX(0, 8, 5, 0)}},
+        {WORKBOOK_OK, 5, 24, {EX(0, 8, 8, 2), EX(0, 8, 5, 0)}},
+        /* Mark and length are not looked at, nor a rest of fewer than 12 bytes. */
+        {WORKBOOK_OK, 5, 12, {0, 0, 0xFF, 0xFF, 0, 0, 0, 8, 0, 5, 0, 0}},
+        {WORKBOOK_THROW_ARITHMETIC, 0, 0, {0}},
+        {WORKBOOK_THROW_ARITHMETIC, 0, 11, {EX(0, 8, 5, 0)}},
+        {WORKBOOK_THROW_ARITHMETIC, 0, 23, {EX(0, 3, 6, 0), EX(0, 8, 5, 0)}},
+        {WORKBOOK_OK, 5, 30, {EX(0, 3, 6, 0), EX(0, 8, 5, 0), 'E', 'X', 0, 8, 0, 0}},
+    };
+    size_t i;
+
+    for (i = 0; i < COUNT_OF(tables); i++) divide(tables[i].bytes, tables[i].size, tables[i].number, tables[i].handler);
+
+    /* The handler is asked before the log. */
+    lend_entries(tables[0].bytes, tables[0].size);
+    lent.log.len = WORKBOOK_LOG_WORDS - 1;
+    EXPECT(forward(), WORKBOOK_REFUSED_LOG_FULL);
+    HAVE(handlers)[9] = sizeof dividing;
+    as_it_is();
+    EXPECT(forward(), WORKBOOK_REFUSED_NEXT_PC);
+}
+
 int main(void) {
     EXPECT(workbook_version(), WORKBOOK_VERSION);
     for (extra = 0; extra <= 2; extra += 2) {
@@ -886,6 +1160,9 @@ int main(void) {
         check_descriptors();
         check_narrowing();
         check_return_types();
+        check_handler_records();
+        check_caught_walk();
+        check_entries();
     }
     printf("%d checks, %d failed\n", checks, failed);
     return failed != 0;

@@ -78,7 +78,7 @@ impl fmt::Display for Value {
 #[must_use = "a press may be refused, and then nothing has changed"]
 #[non_exhaustive]
 pub enum Answer {
-    /// The step or the press was made; so is a step to the handler that catches an exception.
+    /// The step or the press was made. A step to the handler that catches an exception is one too.
     Granted,
     /// The method returns here. Nothing was changed.
     Return(Value),

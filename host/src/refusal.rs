@@ -104,11 +104,11 @@ refusals! {
                        FRETURN for float, DRETURN for double, ARETURN for a reference, \
                        RETURN for void.";
 
-    SHEET_HANDLER = 33: "The file has an EX record that is no entry of an exception table: \
-                         it has 8 bytes, its start is below its end, \
-                         its start and its handler are offsets in the code, \
-                         its end is at most the code's length, \
-                         and its catch type is 0 or the index of a class.";
+    SHEET_HANDLER = 33: "The file has an EX record whose length is not 8, \
+                         whose start is not below its end, \
+                         whose start or handler is outside of the code, \
+                         whose end is above the code's length, \
+                         or whose catch type is neither 0 nor the index of a class.";
 }
 
 impl fmt::Display for Refusal {

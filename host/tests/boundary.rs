@@ -6,8 +6,9 @@
 mod common;
 
 use common::memory::{Lent, Memory};
-use common::{sheet, writes_nothing, Lengths, ANSWER_WORDS, ENOUGH, NOTHING, STATE_WORDS};
-use workbook_host::records::{arguments, constant, record, sizes};
+use common::{class, sheet, sheet_with, writes_nothing};
+use common::{Lengths, ANSWER_WORDS, ENOUGH, NOTHING, STATE_WORDS};
+use workbook_host::records::{arguments, constant, handler, record, sizes};
 
 /// ICONST_3, ICONST_4, IADD, IRETURN.
 const ADDS: [u8; 4] = [0x06, 0x07, 0x60, 0xAC];
@@ -24,15 +25,7 @@ fn bad_sheets() -> Vec<(u32, Vec<u8>)> {
     let int = 7u32.to_be_bytes();
     let long = 7u64.to_be_bytes();
     let code = record(b"CD", &ADDS);
-    let with = |constants: &[Vec<u8>]| {
-        [
-            sizes(2, 0),
-            code.clone(),
-            constants.concat(),
-            arguments(&[]),
-        ]
-        .concat()
-    };
+    let with = |records: &[Vec<u8>]| sheet_with(2, 0, &ADDS, records);
     vec![
         (21, sizes(2, 0)[..3].to_vec()),
         (21, sizes(2, 0)[..7].to_vec()),
@@ -57,6 +50,8 @@ fn bad_sheets() -> Vec<(u32, Vec<u8>)> {
         (25, with(&[constant(0, 3, &int)])),
         (25, with(&[constant(1, 5, &long), constant(2, 3, &int)])),
         (25, with(&[constant(65_535, 6, &long)])),
+        (25, with(&[class(1, 2)])),
+        (33, with(&[handler([0, 5, 0, 0])])),
         (27, sheet(2, 1, &ADDS, &[1, 2])),
     ]
 }
@@ -88,7 +83,8 @@ fn an_accepted_load_writes_what_it_says() {
     expected.words.part_mut()[1] = 0x0102_0304;
     expected.words.part_mut()[4..6].copy_from_slice(&[0x2122_2324, 0x1112_1314]);
     expected.state.part_mut()[..7].copy_from_slice(&[2, 3, 0, 0, 0, 0, 0]);
-    expected.answer.part_mut()[..2].copy_from_slice(&[12, 4]);
+    // The code, and no handlers, where the record of the arguments begins.
+    expected.answer.part_mut()[..4].copy_from_slice(&[12, 4, 42, 0]);
     memory.assert_equals(&expected, &"load");
 }
 
@@ -163,18 +159,23 @@ fn a_load_refuses_memory_that_does_not_suit() {
     }
 }
 
-/// Memories on which steps, presses and runs of every kind of end are made: an ordinary step, a
-/// return, an exception, and refusals by the first question, the second, the third and a later one.
+/// Memories on which steps, presses and runs of every kind of end are made: an ordinary step, one that
+/// a handler catches, a return, an exception, and refusals by the first question, the second, the
+/// third and a later one.
 fn situations() -> Vec<(&'static str, Memory)> {
     let ordinary = Memory::standing(2, &ADDS, 1, &[3]);
     let mut uneven = ordinary.clone();
     uneven.kinds = Lent::new(&[0; 19], 0x5A);
     let mut no_code = ordinary.clone();
     no_code.code = 0..0;
+    let throw = Memory::standing(2, &[0x6C], 0, &[1, 0]);
+    let mut caught = throw.clone();
+    caught.lend_handlers(&handler([0, 1, 0, 0]));
     vec![
         ("ordinary", ordinary),
+        ("caught", caught),
         ("return", Memory::standing(2, &ADDS, 3, &[7])),
-        ("throw", Memory::standing(2, &[0x6C], 0, &[1, 0])),
+        ("throw", throw),
         ("refused 1", uneven),
         ("refused 2", no_code),
         ("refused 3", Memory::standing(1, &ADDS, 2, &[3, 4])),
@@ -414,7 +415,7 @@ fn a_return_writes_two_answer_words_and_nothing_else() {
 
 #[test]
 fn an_exception_and_a_refusal_write_nothing() {
-    for (name, memory) in situations().split_off(2) {
+    for (name, memory) in situations().split_off(3) {
         let number = match name.strip_prefix("refused ") {
             Some(number) => number.parse().unwrap(),
             None => 110,
@@ -568,7 +569,7 @@ fn a_run_that_meets_an_exception_or_a_refusal_says_how_far_it_got() {
 
 #[test]
 fn a_run_refused_by_questions_1_to_3_writes_four_zeros() {
-    for (name, mut memory) in situations().split_off(3) {
+    for (name, mut memory) in situations().split_off(4) {
         if name == "refused 7" {
             continue;
         }

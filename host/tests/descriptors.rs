@@ -129,10 +129,10 @@ fn a_load_gives_the_return_type_and_where_the_code_lies() {
         let state = [2, 256, 0, 0, 0, 0, letter.into()];
         expected.state.part_mut()[..7].copy_from_slice(&state);
         let offset = 12 + 4 + descriptor.len() as u32;
-        expected.answer.part_mut()[..2].copy_from_slice(&[offset, 2]);
+        expected.answer.part_mut()[..4].copy_from_slice(&[offset, 2, offset + 2, 0]);
         assert_eq!(memory.load(), 0, "{what}");
         memory.assert_equals(&expected, &what);
-        memory.take_code();
+        memory.take_parts();
         assert_eq!(memory.code(), [0x00, 0xB1], "{what}");
     }
 }

@@ -8,6 +8,7 @@ use common::memory::{Lent, Memory};
 use common::random::Random;
 use common::{accepted_samples, refused, Lesson, ENOUGH};
 use std::collections::HashSet;
+use workbook_host::records::handler;
 use workbook_host::{back, step, Answer, End, Parts, Press, Ran, ReturnType, State};
 
 /// What may be written by a call: the frame's slots and one entry of the log. Everything else, the
@@ -47,10 +48,38 @@ fn answers(lesson: &Lesson) -> HashSet<Answer> {
     }
     assert!(stepped.log == lesson.log && backed.log == lesson.log);
     assert!(matches!(back, Answer::Granted | Answer::Refused(_)));
+    handlers_are_for_a_throw(lesson, &stepped, step);
     forward_is_a_step_with_history(lesson, &stepped, step, &forwarded, forward);
     one_step_of_a_run(lesson, &stepped, step);
     a_list_is_its_presses(lesson);
     HashSet::from([step, forward, back])
+}
+
+/// A lesson with no handlers lent.
+fn without_handlers(lesson: &Lesson) -> Lesson {
+    let mut lesson = lesson.clone();
+    lesson.memory.lend_handlers(&[]);
+    lesson
+}
+
+/// Handlers play no part but where a step without them is an exception. There it stays one, or is
+/// caught, or the handler is outside of the code.
+fn handlers_are_for_a_throw(lesson: &Lesson, stepped: &Lesson, step: Answer) {
+    let mut bare = without_handlers(lesson);
+    let answer = bare.step();
+    if answer != Answer::Throw {
+        assert_eq!((step, stepped.state), (answer, bare.state));
+        assert!(stepped.slots == bare.slots);
+        return;
+    }
+    assert!(step == Answer::Granted || step == Answer::Throw || step == refused(11));
+    if step == Answer::Granted {
+        let State { max_locals, .. } = lesson.state;
+        let mut expected = lesson.slots.clone();
+        expected.part_mut()[usize::from(max_locals)] = 1;
+        assert!(stepped.slots == expected);
+        assert_eq!(stepped.state.depth, 1);
+    }
 }
 
 fn forward_is_a_step_with_history(
@@ -173,8 +202,7 @@ fn a_state_with_the_memory_of_another_sheet_is_answered() {
 
 /// A memory of junk, and a state that sometimes suits it.
 fn junk(random: &mut Random) -> Lesson {
-    let length = 1 + random.below(24);
-    let code: Vec<u8> = (0..length).map(|_| random.below(202) as u8).collect();
+    let (code, pc) = code(random);
     let mut memory = Memory::new(&code, ENOUGH);
     memory.code = 0..code.len();
     let pool = random.below(6);
@@ -183,6 +211,7 @@ fn junk(random: &mut Random) -> Lesson {
     // One word too many, sometimes.
     let uneven = usize::from(random.once_in(20));
     memory.words = Lent::new(&words(random, pool + uneven), 0xFEED_FACE);
+    memory.lend_handlers(&handlers(random, code.len()));
     let (max_stack, max_locals) = (random.below(9), random.below(6));
     // Fewer slots than the frame has, sometimes.
     let slots = (max_stack + max_locals + random.below(8)).saturating_sub(random.below(3));
@@ -193,7 +222,7 @@ fn junk(random: &mut Random) -> Lesson {
     let state = State {
         max_stack: max_stack as u16,
         max_locals: max_locals as u16,
-        pc: random.below(length + 1) as u32,
+        pc: pc as u32,
         depth: random.below(max_stack + 2) as u32,
         count: if random.once_in(20) {
             random.next()
@@ -208,6 +237,31 @@ fn junk(random: &mut Random) -> Lesson {
         log: Lent::new(&log, 0xFEED_FACE),
         state,
     }
+}
+
+/// A code of junk, and an offset in it or at its end.
+fn code(random: &mut Random) -> (Vec<u8>, usize) {
+    let length = 1 + random.below(24);
+    let mut code: Vec<u8> = (0..length).map(|_| random.below(202) as u8).collect();
+    let pc = random.below(length + 1);
+    // IDIV, LDIV, IREM and LREM more often than the others, so that there is something to catch.
+    if random.once_in(8) && pc < length {
+        code[pc] = random.pick(&[0x6C, 0x6D, 0x70, 0x71]);
+    }
+    (code, pc)
+}
+
+/// Entries for a code of so many bytes, many of which cover much of it, and a rest.
+fn handlers(random: &mut Random, length: usize) -> Vec<u8> {
+    let mut bytes = vec![];
+    for _ in 0..random.below(3) {
+        let [start, end, at] = [0, 1, 2].map(|_| random.below(length + 2) as u16);
+        let (start, end) = (random.pick(&[0, start]), random.pick(&[length as u16, end]));
+        let index = random.below(7) as u16;
+        bytes.extend(handler([start, end, at, random.pick(&[0, index])]));
+    }
+    bytes.extend(vec![0; random.below(12)]);
+    bytes
 }
 
 /// None, a letter, or a word that counts as none.
@@ -229,9 +283,14 @@ fn words(random: &mut Random, length: usize) -> Vec<u32> {
 fn junk_is_answered() {
     let mut random = Random::new(4);
     let mut met = HashSet::new();
+    let mut caught = 0;
     for _ in 0..40_000 {
-        met.extend(answers(&junk(&mut random)));
+        let mut lesson = junk(&mut random);
+        met.extend(answers(&lesson));
+        let throws = without_handlers(&lesson).step() == Answer::Throw;
+        caught += u32::from(throws && lesson.step() == Answer::Granted);
     }
+    assert!(caught > 20, "only {caught} exceptions are caught");
     assert!(met.contains(&Answer::Granted) && met.contains(&Answer::Throw));
     for number in (1..=14).filter(|number| *number != 6).chain([32]) {
         assert!(met.contains(&refused(number)), "no refusal {number}");
@@ -241,7 +300,8 @@ fn junk_is_answered() {
 #[test]
 fn parts_that_are_only_read_may_be_the_same() {
     // LDC 3; the code's bytes are also the pool's kinds, and byte 3 says that there is an int. The
-    // pool's words are also the log, and they are an entry: one place, at 0, where 77 was.
+    // pool's words are also the log, and they are an entry: one place, at 0, where 77 was. The code
+    // is also lent as handlers.
     let (mut code, mut words) = ([0; 20], [0; 20]);
     code[..4].copy_from_slice(&[0x12, 3, 0xAC, 3]);
     words[3..5].copy_from_slice(&[1, 77]);
@@ -249,6 +309,7 @@ fn parts_that_are_only_read_may_be_the_same() {
         code: &code,
         kinds: &code,
         words: &words,
+        handlers: &code,
     };
     let start = State {
         max_stack: 1,

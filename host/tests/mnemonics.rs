@@ -400,6 +400,7 @@ fn what_is_wrong_in_a_text_is_refused_by_the_library() {
             code: &code,
             kinds: &[],
             words: &[],
+            handlers: &[],
         };
         let answer = step(parts, &mut [0; 6], &mut state);
         let text = instruction(&code, pc);

@@ -4,8 +4,8 @@
 mod common;
 
 use common::memory::Lent;
-use common::{refused, sheet, with_descriptor, Lesson};
-use workbook_host::records::{arguments, constant, record, sizes};
+use common::{refused, sheet, sheet_with, with_descriptor, Lesson};
+use workbook_host::records::{constant, handler};
 use workbook_host::{Answer, Press, Refusal, Value, Walk};
 
 /// What the last of some forward presses is answered.
@@ -87,8 +87,7 @@ fn a_constant_has_to_be_of_the_right_kind() {
         let value = [0; 8];
         let value = if tag < 5 { &value[..4] } else { &value };
         for (place, code) in opcodes.into_iter().enumerate() {
-            let pool = constant(1, tag, value);
-            let sheet = [sizes(2, 0), record(b"CD", code), pool, arguments(&[])].concat();
+            let sheet = sheet_with(2, 0, code, &[constant(1, tag, value)]);
             let fits = (place == 2) == (tag >= 5);
             let expected = if fits { Answer::Granted } else { refused(10) };
             assert_eq!(last_answer(sheet, 1), expected, "tag {tag} by {code:?}");
@@ -173,4 +172,7 @@ fn refusals_of_a_sheet() {
         );
     }
     assert_eq!(last_answer(sheet, 2), Answer::Return(Value::Int(0)));
+    // A handler that would begin behind the code.
+    let sheet = sheet_with(1, 0, &[0x03, 0xAC], &[handler([0, 2, 2, 0])]);
+    assert_eq!(Walk::open(sheet).err(), Some(Refusal::SHEET_HANDLER));
 }

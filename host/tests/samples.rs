@@ -21,7 +21,10 @@ fn printed(sheet: &[u8], mut press: impl FnMut(Parts, &mut [u32], &mut State) ->
     let (mut slots, mut kinds, mut words) = (vec![0; SLOTS], vec![0; POOL], vec![0; POOL]);
     let loaded = load(sheet, &mut slots, &mut kinds, &mut words);
     let Loaded {
-        mut state, code, ..
+        mut state,
+        code,
+        handlers,
+        ..
     } = match loaded {
         Ok(loaded) => loaded,
         Err(refusal) => return format!("sheet {}\n", refusal.number()),
@@ -30,6 +33,7 @@ fn printed(sheet: &[u8], mut press: impl FnMut(Parts, &mut [u32], &mut State) ->
         code: &sheet[code],
         kinds: &kinds,
         words: &words,
+        handlers: &sheet[handlers],
     };
     let mut text = "step pc op depth top\n".to_string();
     for steps in 0..STEPS {

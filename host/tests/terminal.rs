@@ -3,11 +3,12 @@
 
 mod common;
 
-use common::{sample_path, sheet, with_descriptor};
+use common::{sample_path, sheet, sheet_with, with_descriptor};
 use std::io::Write;
 use std::path::Path;
 use std::process::{Command, Output, Stdio};
 use std::{env, fs, process};
+use workbook_host::records::handler;
 
 /// What the program gives for a file and a script.
 fn walk(file: &Path, keys: &str) -> Output {
@@ -235,10 +236,46 @@ forward: return int FFFFFF80 (-128)";
 }
 
 #[test]
+fn a_caught_division_is_shown_as_a_step() {
+    // ICONST_5, ICONST_0, IDIV, IRETURN, and a handler at the last of them.
+    let code = [0x08, 0x03, 0x6C, 0xAC];
+    let file = Scratch::new("caught", &sheet_with(2, 0, &code, &[handler([0, 3, 3, 0])]));
+    let output = walk(&file.0, "f\nf\nf\nf\nr\nb\n");
+    assert!(output.status.success());
+    let screens = drawn(&output);
+    let at_handler = "\
+step 3  offset 3  depth 1
+locals: none
+operand stack, top first:
+      0  00000001  1
+next: ireturn
+";
+    let same = "run: step 3, offset 3, depth 1, the same as the walk at step 3; then stopped";
+    let answers = ["forward: granted", "forward: return int 00000001 (1)", same];
+    for (screen, answer) in screens[3..6].iter().zip(answers) {
+        assert_eq!(screen, &format!("{at_handler}{answer}"));
+    }
+    let divides = screens[2].strip_suffix("forward: granted").unwrap();
+    assert_eq!(screens[6], format!("{divides}back: granted"));
+}
+
+#[test]
 fn a_refused_sheet_is_explained() {
     let output = walk(&sample_path("refused_length.sheet"), "f\n");
     assert_eq!(output.status.code(), Some(1));
     let expected = "sheet refused 21: The file ends in the middle of a record.\n";
+    assert_eq!(String::from_utf8(output.stdout).unwrap(), expected);
+
+    let file = Scratch::new(
+        "handler",
+        &sheet_with(0, 0, &[0xB1], &[handler([0, 2, 0, 0])]),
+    );
+    let output = walk(&file.0, "f\n");
+    assert_eq!(output.status.code(), Some(1));
+    let expected = "sheet refused 33: The file has an EX record whose length is not 8, \
+        whose start is not below its end, whose start or handler is outside of the code, \
+        whose end is above the code's length, \
+        or whose catch type is neither 0 nor the index of a class.\n";
     assert_eq!(String::from_utf8(output.stdout).unwrap(), expected);
 }
 

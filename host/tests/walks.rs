@@ -3,9 +3,10 @@
 
 mod common;
 
-use common::{accepted_samples, refused, sample, samples, sheet, with_descriptor};
-use workbook_host::records::{arguments, constant, record, sizes};
-use workbook_host::{load, Answer, End, Refusal, ReturnType, State, Value, Walk};
+use common::{accepted_samples, class, refused, sample, samples};
+use common::{sheet, sheet_with, with_descriptor};
+use workbook_host::records::{arguments, constant, handler, record, sizes};
+use workbook_host::{load, source, Answer, End, Parts, Refusal, ReturnType, State, Value, Walk};
 
 #[test]
 fn a_walk_opens_what_a_load_accepts() {
@@ -49,35 +50,46 @@ fn a_walk_keeps_what_its_sheet_asks_for() {
     assert_eq!(walk.parts().words.len(), 9);
 }
 
-/// What a load into the largest memory gives: the state, the frame, and the pool up to the highest
-/// index, with zeros and nothing else after that.
-type Opened = Result<(State, Vec<u32>, Vec<u8>, Vec<u32>), Refusal>;
+/// What a load into the largest memory gives: the state, the frame, the code and the handlers, and the
+/// pool up to the highest index, with zeros and nothing else after that.
+type Opened = Result<(State, Vec<u32>, [Vec<u8>; 3], Vec<u32>), Refusal>;
 
 fn loaded_in_the_largest_memory(sheet: &[u8], pool: usize) -> Opened {
     let (mut slots, mut kinds, mut words) = (vec![0; 131_070], vec![0; 65_536], vec![0; 65_536]);
-    let state = load(sheet, &mut slots, &mut kinds, &mut words)?.state;
-    slots.truncate(state.frame());
+    let loaded = load(sheet, &mut slots, &mut kinds, &mut words)?;
+    slots.truncate(loaded.state.frame());
     assert!(kinds.drain(pool..).all(|kind| kind == 0));
     assert!(words.drain(pool..).all(|word| word == 0));
-    Ok((state, slots, kinds, words))
+    let [code, handlers] = [loaded.code, loaded.handlers].map(|part| sheet[part].to_vec());
+    Ok((loaded.state, slots, [code, kinds, handlers], words))
+}
+
+fn opened(sheet: &[u8]) -> Opened {
+    let walk = Walk::open(sheet.to_vec())?;
+    let Parts {
+        code,
+        kinds,
+        words,
+        handlers,
+    } = walk.parts();
+    let bytes = [code, kinds, handlers].map(<[u8]>::to_vec);
+    Ok((walk.state(), walk.frame().to_vec(), bytes, words.to_vec()))
 }
 
 #[test]
 fn a_walk_opens_as_if_its_memory_were_the_largest() {
-    for sample in samples() {
-        for place in 0..sample.sheet.len().min(80) {
+    let named = samples()
+        .into_iter()
+        .map(|sample| (sample.name, sample.sheet));
+    for (name, sheet) in named.chain([("careful".to_string(), careful(0))]) {
+        for place in 0..sheet.len().min(80) {
             for byte in [0x00, 0x05, 0xFF] {
-                let mut sheet = sample.sheet.clone();
+                let mut sheet = sheet.clone();
                 sheet[place] = byte;
-                let walk = Walk::open(sheet.clone());
-                let pool = walk.as_ref().map_or(0, |walk| walk.parts().kinds.len());
-                let opened = walk.map(|walk| {
-                    let (frame, parts) = (walk.frame().to_vec(), walk.parts());
-                    let (kinds, words) = (parts.kinds.to_vec(), parts.words.to_vec());
-                    (walk.state(), frame, kinds, words)
-                });
+                let opened = opened(&sheet);
+                let pool = opened.as_ref().map_or(0, |opened| opened.3.len());
                 let expected = loaded_in_the_largest_memory(&sheet, pool);
-                assert_eq!(opened, expected, "{} with {byte} at {place}", sample.name);
+                assert_eq!(opened, expected, "{name} with {byte} at {place}");
             }
         }
     }
@@ -140,6 +152,70 @@ fn a_walk_of_a_descriptor_goes_forward_back_and_by_runs() {
     assert_eq!(few.err(), Some(Refusal::SHEET_DESCRIPTOR));
     let long = Walk::open(with_descriptor(b"(JI)J", &sheet)).unwrap();
     assert_eq!(long.run(9).ran.end, End::Refused(Refusal::RETURN_TYPE));
+}
+
+/// Divides 5 by an argument, and gives -1 where that is 0.
+fn careful(divisor: i32) -> Vec<u8> {
+    let source = format!(
+        "# gives -1 where it would divide by 0
+        max_stack 2
+        max_locals 1
+        constant 1 class yes
+        handler divide caught caught 1
+        argument int {divisor}
+        code
+        divide: iconst_5; iload_0; idiv; ireturn
+        caught: pop; iconst_m1; ireturn"
+    );
+    source::sheet(&source).unwrap()
+}
+
+#[test]
+fn a_caught_division_is_a_step_like_any_other() {
+    let mut walk = Walk::open(careful(0)).unwrap();
+    assert_eq!(walk.parts().handlers, handler([0, 4, 4, 1]));
+    for _ in 0..2 {
+        assert_eq!([walk.forward(), walk.forward()], [Answer::Granted; 2]);
+        assert_eq!(
+            (walk.next_instruction(), walk.stack()),
+            ("idiv".to_string(), &[5, 0][..])
+        );
+        assert_eq!(walk.forward(), Answer::Granted);
+        // The word that stands for the exception, and nothing else.
+        assert_eq!((walk.pc(), walk.stack(), walk.count()), (4, &[1][..], 3));
+        assert_eq!(walk.next_instruction(), "pop");
+        assert_eq!(
+            [walk.back(), walk.back(), walk.back()],
+            [Answer::Granted; 3]
+        );
+        assert_eq!((walk.pc(), walk.frame()), (0, &[0, 0, 0][..]));
+        assert_eq!(walk.back(), refused(13));
+    }
+    let reached = walk.run(u64::MAX);
+    assert_eq!(
+        (reached.ran.end, reached.ran.steps),
+        (End::Return(Value::Int(-1)), 5)
+    );
+    // Another argument, and another class.
+    let reached = Walk::open(careful(2)).unwrap().run(u64::MAX);
+    assert_eq!(
+        (reached.ran.end, reached.ran.steps),
+        (End::Return(Value::Int(2)), 3)
+    );
+    let code = [0x04, 0x03, 0x6C, 0xAC];
+    let records = [class(1, 0), handler([0, 4, 3, 1])];
+    let uncaught = Walk::open(sheet_with(2, 0, &code, &records)).unwrap();
+    assert_eq!(uncaught.run(9).ran.end, End::Throw);
+}
+
+#[test]
+fn a_class_may_have_the_last_index() {
+    // ICONST_1, ICONST_0, IREM, IRETURN.
+    let records = [class(65_535, 1), handler([0, 4, 3, 65_535])];
+    let sheet = sheet_with(2, 0, &[0x04, 0x03, 0x70, 0xAC], &records);
+    let walk = Walk::open(sheet).unwrap();
+    assert_eq!(walk.parts().kinds.len(), 65_536);
+    assert_eq!(walk.run(9).ran.end, End::Return(Value::Int(1)));
 }
 
 #[test]

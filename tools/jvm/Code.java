@@ -11,7 +11,11 @@ final class Code {
     private final List<int[]> sites = new ArrayList<>(); // place of a distance, the jump's opcode, bytes
   }
 
+  /** Where an instruction begins, and the locals that are known there; null where it is never reached. */
+  record Start(int at, char[] locals) {}
+
   Frame frame;
+  List<Start> starts; // null where nobody asks
   boolean reachable = true;
   int size, maxStack, maxLocals;
   int cost; // steps at most, as far as written
@@ -27,11 +31,17 @@ final class Code {
 
   /** An instruction that goes on to the next one. */
   void emit(String pops, String pushes, int... instruction) {
+    begin();
     frame.pop(pops);
     frame.push(pushes);
     maxStack = Math.max(maxStack, Frame.size(frame.stack));
     raw(instruction);
     cost++;
+  }
+
+  /** The next instruction begins here. */
+  void begin() {
+    if (starts != null) starts.add(new Start(size, reachable ? frame.locals.clone() : null));
   }
 
   void raw(int... instruction) {
@@ -43,6 +53,10 @@ final class Code {
 
   void word(int word) {
     raw(word >> 24, word >> 16, word >> 8, word);
+  }
+
+  int opcode(int at) {
+    return bytes[at] & 255;
   }
 
   /** Writes over the byte at a place. */
@@ -57,6 +71,7 @@ final class Code {
   /** A jump whose operands are already taken off the frame. GOTO_W has a distance of four bytes. */
   void jump(int opcode, Label to) {
     int from = size;
+    begin();
     raw(opcode);
     distance(from, to, opcode == 200 ? 4 : 2);
     cost++;
@@ -66,6 +81,7 @@ final class Code {
   /** A switch whose index is already taken off the frame: the fields after the default, then the targets, after their keys in a LOOKUPSWITCH. */
   void choose(int opcode, Label otherwise, int[] fields, int[] keys, List<Label> targets) {
     int from = size;
+    begin();
     raw(opcode);
     while (size % 4 != 0) raw(0);
     distance(from, otherwise, 4);

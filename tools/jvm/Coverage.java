@@ -48,7 +48,7 @@ final class Coverage {
     if (opcode >= 153 && opcode <= 167 || opcode >= 198 && opcode <= 200) marks.add("jump " + opcode + (code[pc + 1] < 0 ? " back" : " forward"));
   }
 
-  private static int length(byte[] code, int pc) {
+  static int length(byte[] code, int pc) {
     int opcode = code[pc] & 255, at = (pc / 4 + 1) * 4;
     if (opcode == 170) return at + 12 + 4 * (word(code, at + 8) - word(code, at + 4) + 1) - pc;
     if (opcode == 171) return at + 8 + 8 * word(code, at + 4) - pc;

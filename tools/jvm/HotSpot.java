@@ -4,6 +4,7 @@ import java.io.IOException;
 import java.lang.reflect.Array;
 import java.lang.reflect.InvocationTargetException;
 import java.nio.charset.StandardCharsets;
+import java.util.ArrayList;
 import java.util.List;
 import java.util.function.ToIntFunction;
 
@@ -42,16 +43,48 @@ final class HotSpot {
   /** The last line owed. Throws a LinkageError where the verifier refuses the method. */
   static String end(Sample sample) throws Exception {
     Object[] arguments = arguments(sample);
+    try {
+      return line(sample.result(), value -> word(sample, arguments, value), run(sample, arguments));
+    } catch (ArithmeticException e) {
+      return "throw arithmetic";
+    }
+  }
+
+  /** What the method returns or throws. */
+  private static Object run(Sample sample, Object[] arguments) throws Exception {
     Loader loader = new Loader();
     Class<?> made = loader.define("T", file(sample));
     if (sample.descriptor() != null) made = loader.define("C", caller(sample));
     try {
-      return line(sample.result(), value -> word(sample, arguments, value), made.getMethods()[0].invoke(null, arguments));
+      return made.getMethods()[0].invoke(null, arguments);
     } catch (InvocationTargetException e) {
-      if (e.getCause() instanceof ArithmeticException) return "throw arithmetic";
       if (e.getCause() instanceof LinkageError refused) throw refused;
+      if (e.getCause() instanceof RuntimeException thrown) throw thrown;
       throw e;
     }
+  }
+
+  /**
+   * The number of the entry that takes the first exception that a method throws, -1 where none does. Each entry gets a handler of its own after the
+   * method's code, with the entry's number in another exception.
+   */
+  static int taker(Sample sample) throws Exception {
+    ByteArrayOutputStream code = new ByteArrayOutputStream();
+    code.writeBytes(sample.code());
+    List<Sample.Handler> handlers = new ArrayList<>();
+    for (Sample.Handler h : sample.handlers()) {
+      int size = ~handlers.size();
+      handlers.add(new Sample.Handler(h.start(), h.end(), code.size(), h.type()));
+      code.writeBytes(new byte[] {87, 17, (byte) (size >> 8), (byte) size, (byte) 188, 10, 87, 1, (byte) 191}); // POP, SIPUSH, NEWARRAY, POP, null, ATHROW
+    }
+    try {
+      run(sample.with(code.toByteArray(), handlers), arguments(sample));
+    } catch (ArithmeticException e) {
+      return -1;
+    } catch (NegativeArraySizeException e) {
+      return ~Integer.parseInt(e.getMessage());
+    }
+    throw new IllegalStateException("nothing is thrown");
   }
 
   /** Whether methods are verified at all. The wrong ones do no harm where they are not: a local is read that nothing has set, then half a long. */
@@ -63,7 +96,7 @@ final class HotSpot {
     byte[] code = new byte[instructions.length];
     for (int i = 0; i < code.length; i++) code[i] = (byte) instructions[i];
     try {
-      end(new Sample(2, 2, code, List.of(), "", List.of(), 'I', List.of(), null));
+      end(new Sample(2, 2, code, List.of(), "", List.of(), 'I', List.of(), null, List.of()));
       return false;
     } catch (VerifyError e) {
       return true;
@@ -80,6 +113,15 @@ final class HotSpot {
       case 'A' -> String.format("return ref %08X", word.applyAsInt(value));
       default -> "return void";
     };
+  }
+
+  /** Whether an ArithmeticException can be assigned to a class. */
+  static boolean takes(String name) {
+    try {
+      return Class.forName(name.replace('/', '.')).isAssignableFrom(ArithmeticException.class);
+    } catch (ClassNotFoundException e) {
+      throw new IllegalStateException(e);
+    }
   }
 
   // ---- arguments: each word of a reference but 0 stands for an object of its own
@@ -127,6 +169,7 @@ final class HotSpot {
 
   private static int word(Sample sample, Object[] arguments, Object value) {
     if (value == null) return 0;
+    if (value instanceof ArithmeticException) return 1; // one that was caught
     for (int i = 0; i < arguments.length; i++) if (arguments[i] == value) return (int) (long) sample.arguments().get(i);
     throw new IllegalStateException("an object from nowhere");
   }
@@ -156,10 +199,11 @@ final class HotSpot {
     ByteArrayOutputStream bytes = new ByteArrayOutputStream();
     DataOutputStream out = new DataOutputStream(bytes);
     int first = sample.nextIndex();
+    List<String> classes = sample.pool().stream().filter(c -> c.name() != null).map(Sample.Constant::name).toList();
     out.writeInt(0xCAFEBABE);
     out.writeInt(49);
-    out.writeShort(first + 7);
-    constants(out, sample);
+    out.writeShort(first + 7 + classes.size());
+    constants(out, sample, first + 7);
     text(out, "T");
     text(out, "java/lang/Object");
     for (int name : new int[] {first, first + 1}) {
@@ -167,30 +211,39 @@ final class HotSpot {
       out.writeShort(name);
     }
     for (String name : new String[] {"run", sample.descriptor() != null ? sample.descriptor() : plain(sample), "Code"}) text(out, name);
+    for (String name : classes) text(out, name);
     // public and super, this class, Object, no interfaces, no fields, one method: public and static, its name and descriptor, one attribute
     shorts(out, 0x21, first + 2, first + 3, 0, 0, 1, 9, first + 4, first + 5, 1, first + 6);
-    out.writeInt(12 + sample.code().length);
+    out.writeInt(12 + sample.code().length + 8 * sample.handlers().size());
     shorts(out, sample.stack(), sample.locals());
     out.writeInt(sample.code().length);
     out.write(sample.code());
-    shorts(out, 0, 0, 0); // no handlers, no attributes of the code, none of the class
+    shorts(out, sample.handlers().size());
+    for (Sample.Handler h : sample.handlers()) shorts(out, h.start(), h.end(), h.handler(), h.type());
+    shorts(out, 0, 0); // no attributes of the code, none of the class
     return bytes.toByteArray();
   }
 
-  private static void constants(DataOutputStream out, Sample sample) throws IOException {
-    int at = 1;
+  /** The constants; the names of classes stand from an index on. */
+  private static void constants(DataOutputStream out, Sample sample, int names) throws IOException {
+    int at = 1, name = names;
     for (Sample.Constant c : sample.pool()) {
       for (; at < c.index(); at++) text(out, "");
       out.writeByte(c.tag());
-      if (Frame.wide(c.kind())) out.writeLong(c.bits());
+      if (c.name() != null) out.writeShort(name++);
+      else if (Frame.wide(c.kind())) out.writeLong(c.bits());
       else out.writeInt((int) c.bits());
       at = c.next();
     }
   }
 
-  /** The descriptor of what the instructions know, every reference an Object. */
   private static String plain(Sample sample) {
-    return ("(" + sample.kinds() + ")" + sample.result()).replace("A", "Ljava/lang/Object;");
+    return plain(sample.kinds(), sample.result());
+  }
+
+  /** The descriptor of what the instructions know, every reference an Object. */
+  static String plain(String kinds, char result) {
+    return ("(" + kinds + ")" + result).replace("A", "Ljava/lang/Object;");
   }
 
   private static void text(DataOutputStream out, String text) throws IOException {

@@ -2,7 +2,7 @@ import java.util.Map;
 import java.util.TreeMap;
 
 /** Methods with a descriptor, by their return type, and what became of the ints that they returned. */
-final class Returns {
+final class Returns implements Tally {
   private static final String TYPES = "BCDFIJLSVZ[";
 
   private final Map<Character, int[]> tallies = new TreeMap<>(); // methods, returned, narrowed to another int
@@ -12,7 +12,8 @@ final class Returns {
    * Notes a method and its end. Where an int is narrowed, the same code is run once more as a method that returns an int: what it gives, narrowed as
    * JVMS says, is to be the end.
    */
-  void add(Sample sample, String end) throws Exception {
+  @Override
+  public void add(Sample sample, String end) throws Exception {
     String descriptor = sample.descriptor();
     char type = descriptor.charAt(descriptor.lastIndexOf(')') + 1);
     int[] tally = tallies.computeIfAbsent(type, t -> new int[3]);
@@ -27,7 +28,8 @@ final class Returns {
   }
 
   /** Whether each type is returned, each narrow one narrowed, and none otherwise than JVMS says. */
-  boolean complete() {
+  @Override
+  public boolean complete() {
     boolean all = wrong == 0;
     for (char type : TYPES.toCharArray()) {
       int[] tally = tallies.getOrDefault(type, new int[3]);
@@ -36,7 +38,8 @@ final class Returns {
     return all;
   }
 
-  void print() {
+  @Override
+  public void print() {
     tallies.forEach((type, n) -> System.out.println(type + ": " + n[0] + " methods, " + n[1] + " return, " + n[2] + " an int that is narrowed to another"));
     System.out.println("narrowed otherwise than JVMS says: " + wrong);
   }

@@ -48,6 +48,25 @@ def return_type(sheet):
     return re.match(rb"\((?:\[*(?:[BCDFIJSZ]|L[^;]*;))*\)(.)", descriptor, re.DOTALL)[1].decode()
 
 
+def records(sheet):
+    """The records of a sheet that is whole."""
+    at = 0
+    while at < len(sheet):
+        end = at + 4 + int.from_bytes(sheet[at + 2 : at + 4], "big")
+        yield sheet[at:end]
+        at = end
+
+
+def later(sheet):
+    """The sheet with each handler's range one byte shorter at its start."""
+
+    def moved(record):
+        start = int.from_bytes(record[4:6], "big") + 1
+        return record[:4] + start.to_bytes(2, "big") + record[6:]
+
+    return b"".join(moved(record) if record.startswith(b"EX") else record for record in records(sheet))
+
+
 def unpack(data):
     """The mark and the sheet of each case of a file."""
     out, at = [], 0

@@ -2,7 +2,7 @@
  * Runs the sheets of a CASES file (tools/jvm/Methods.java) on the exported library, and tells which differences of the Rust they meet.
  *
  *   walk CASES                a line for each: the last line, a tab, the rows of docs/DIFFERENCES.md that it meets, a tab, its steps
- *   walk --executed CASES     how many methods execute each opcode, each WIDE form, each switch at each alignment
+ *   walk --executed CASES     how many methods execute each opcode, each WIDE form, each switch at each alignment, and catch an exception
  *
  * The end comes from workbook_run. The same method is then walked with workbook_step: before each step the opcode and its operands say whether the
  * Rust does something else there. Both ways have to end in the same way.
@@ -13,21 +13,22 @@
 
 #include "workbook.h"
 
-enum { SHEET = 65536, SLOTS = 131072, POOL = 65536, BUDGET = 1000000 };
+enum { SHEET = 65536, SLOTS = 131072, POOL = 65536, BUDGET = 10000000, ENTRY = 12 };
 #define MINIMUM 0x8000000000000000u
 
 static uint8_t sheet[SHEET], kinds[POOL];
 static uint32_t words[POOL], slots[SLOTS], state[WORKBOOK_STATE_WORDS], answer[WORKBOOK_ANSWER_WORDS];
 static size_t sheet_len;
-static const uint8_t *code;
-static size_t code_len;
+static const uint8_t *code, *handlers;
+static size_t code_len, handlers_len;
 
 /* Rows that the method meets, in the order of the table. */
-enum { ROWS = 44 };
+enum { ROWS = 47 };
 static char met[ROWS];
 
-/* Executed in this method, and how many methods execute it: opcodes, then WIDE by its second byte, then switches by opcode and offset modulo 4. */
-enum { WIDES = 256, SWITCHES = 512, MARKS = 520 };
+/* Executed in this method, and how many methods execute it: opcodes, then WIDE by its second byte, then switches by opcode and offset modulo 4, then
+   exceptions caught by type 0, by a class, and after another. */
+enum { WIDES = 256, SWITCHES = 512, CAUGHT = 520, MARKS = 523 };
 static char executed[MARKS];
 static long tally[MARKS];
 
@@ -35,15 +36,19 @@ static uint32_t load(void) {
     uint32_t number = workbook_load(sheet, sheet_len, slots, SLOTS, kinds, POOL, words, POOL, state, WORKBOOK_STATE_WORDS, answer, WORKBOOK_ANSWER_WORDS);
     code = sheet + answer[0];
     code_len = answer[1];
+    handlers = sheet + answer[2];
+    handlers_len = answer[3];
     return number;
 }
 
 static uint32_t run(void) {
-    return workbook_run(code, code_len, kinds, POOL, words, POOL, slots, SLOTS, state, WORKBOOK_STATE_WORDS, answer, WORKBOOK_ANSWER_WORDS, BUDGET);
+    return workbook_run(code, code_len, kinds, POOL, words, POOL, handlers, handlers_len, slots, SLOTS, state, WORKBOOK_STATE_WORDS, answer,
+                        WORKBOOK_ANSWER_WORDS, BUDGET);
 }
 
 static uint32_t step(void) {
-    return workbook_step(code, code_len, kinds, POOL, words, POOL, slots, SLOTS, state, WORKBOOK_STATE_WORDS, answer, WORKBOOK_ANSWER_WORDS);
+    return workbook_step(code, code_len, kinds, POOL, words, POOL, handlers, handlers_len, slots, SLOTS, state, WORKBOOK_STATE_WORDS, answer,
+                         WORKBOOK_ANSWER_WORDS);
 }
 
 /* ---- what lies on the stack, counted from the top */
@@ -56,9 +61,35 @@ static int float_nan(uint32_t bits) { return (bits & 0x7FFFFFFF) > 0x7F800000; }
 
 static int double_nan(uint64_t bits) { return (bits & 0x7FFFFFFFFFFFFFFF) > 0x7FF0000000000000; }
 
+static size_t half_at(const uint8_t *at) { return (size_t)at[0] << 8 | at[1]; }
+
 static uint32_t word_at(size_t at) { return (uint32_t)code[at] << 24 | (uint32_t)code[at + 1] << 16 | (uint32_t)code[at + 2] << 8 | code[at + 3]; }
 
+/* ---- the exception table */
+
+/* The first entry that takes an exception and covers an offset; one that starts so many bytes too late counts too. */
+static const uint8_t *taker(size_t pc, size_t late) {
+    size_t at;
+    for (at = 0; at + ENTRY <= handlers_len; at += ENTRY) {
+        const uint8_t *entry = handlers + at + 4;
+        size_t type = half_at(entry + 6);
+        if (half_at(entry) <= pc + late && pc < half_at(entry + 2) && (type == 0 || (kinds[type] == 7 && words[type] == 1))) return entry;
+    }
+    return NULL;
+}
+
 /* ---- the rows of docs/DIFFERENCES.md, section 1, by the number after the point */
+
+/* A division: the Rust throws where the minimum is divided by -1, and its handlers cover one byte more. */
+static int division_row(size_t pc, int row, int zero, int edge) {
+    if (edge) return row < 3 && taker(pc, 1) ? 46 : row;
+    if (!zero || taker(pc, 1) == taker(pc, 0)) return 0;
+    return taker(pc, 0) ? 45 : 44;
+}
+
+static int int_row(size_t pc, int row) { return division_row(pc, row, word(0) == 0, word(1) == 0x80000000 && word(0) == 0xFFFFFFFF); }
+
+static int long_row(size_t pc, int row) { return division_row(pc, row, pair(0) == 0, pair(2) == MINIMUM && pair(0) + 1 == 0); }
 
 /* LCMP by the sign of a wrapped difference. */
 static int lcmp_row(uint64_t a, uint64_t b) {
@@ -105,10 +136,10 @@ static int look(void) {
     size_t pc = state[WORKBOOK_PC];
     int opcode = code[pc];
     switch (opcode) {
-    case 108: meet(word(1) == 0x80000000 && word(0) == 0xFFFFFFFF ? 1 : 0); break;
-    case 109: meet(pair(2) == MINIMUM && pair(0) + 1 == 0 ? 2 : 0); break;
-    case 112: meet(word(1) == 0x80000000 && word(0) == 0xFFFFFFFF ? 3 : 0); break;
-    case 113: meet(pair(2) == MINIMUM && pair(0) + 1 == 0 ? 4 : 0); break;
+    case 108: meet(int_row(pc, 1)); break;
+    case 109: meet(long_row(pc, 2)); break;
+    case 112: meet(int_row(pc, 3)); break;
+    case 113: meet(long_row(pc, 4)); break;
     case 121: case 123: case 125: meet(shift_row(opcode)); break;
     case 132: meet(code[pc + 2] < 128 ? 0 : code[pc + 2] == 128 ? 5 : 6); break;
     case 148: meet(lcmp_row(pair(2), pair(0))); break;
@@ -134,6 +165,16 @@ static void note_executed(void) {
     if (code[pc] == 170 || code[pc] == 171) executed[SWITCHES + 4 * (code[pc] - 170) + pc % 4] = 1;
 }
 
+/* Notes whether the next step catches an exception. */
+static void note_caught(void) {
+    size_t pc = state[WORKBOOK_PC];
+    int narrow = code[pc] == 108 || code[pc] == 112, wide = code[pc] == 109 || code[pc] == 113;
+    const uint8_t *entry = (narrow && word(0) == 0) || (wide && pair(0) == 0) ? taker(pc, 0) : NULL;
+    if (!entry) return;
+    if (executed[CAUGHT] || executed[CAUGHT + 1]) executed[CAUGHT + 2] = 1;
+    executed[CAUGHT + (half_at(entry + 6) > 0)] = 1;
+}
+
 /* ---- a method */
 
 /* Walks to the end with single steps. */
@@ -143,6 +184,7 @@ static uint32_t walk(uint64_t *steps) {
     for (*steps = 0;; ++*steps) {
         int row = look();
         note_executed();
+        note_caught();
         number = step();
         if (number != WORKBOOK_OK) return number;
         if (row > 0 && nan_on_top(row)) meet(row);
@@ -201,10 +243,12 @@ static int method(int print) {
 }
 
 static void print_executed(void) {
+    static const char *const how[] = {"by type 0", "by a class", "after another"};
     int i;
     for (i = 0; i < WIDES; i++) if (tally[i]) printf("opcode %d: %ld\n", i, tally[i]);
     for (i = WIDES; i < SWITCHES; i++) if (tally[i]) printf("WIDE %d: %ld\n", i - WIDES, tally[i]);
-    for (i = SWITCHES; i < MARKS; i++) if (tally[i]) printf("switch %d at offset modulo 4: %d: %ld\n", 170 + (i - SWITCHES) / 4, i % 4, tally[i]);
+    for (i = SWITCHES; i < CAUGHT; i++) if (tally[i]) printf("switch %d at offset modulo 4: %d: %ld\n", 170 + (i - SWITCHES) / 4, i % 4, tally[i]);
+    for (i = CAUGHT; i < MARKS; i++) if (tally[i]) printf("caught %s: %ld\n", how[i - CAUGHT], tally[i]);
 }
 
 int main(int count, char **arguments) {

@@ -151,6 +151,7 @@ pub record Said (sheet : List ℕ) (x : Loaded) : Type 0 where
   pub is-part : codeOf sheet x ≡ take (x .«code_length») (drop (x .code) sheet)
   -- at most 65,535 constants of fifteen bytes stand between the code's end and the handlers
   pub handlers-near : x .handlers ≤ 1114111
+  pub handlers-long : (p : Reading) → sheetCheck sheet ≡ passed p → x .«handlers_length» ≡ handlersLength p
   pub handlers-part : handlersOf sheet x ≡ take (x .«handlers_length») (drop (x .handlers) sheet)
   pub small-stack : x .state .«max_stack» ≤ 65535
   pub small-locals : x .state .«max_locals» ≤ 65535
@@ -167,6 +168,7 @@ accepted-said sheet slots kinds words bytes h =
       short = w .short-code bytes;
       is-part = code-is sheet slots kinds words bytes p (r .read) (r .fits);
       handlers-near = omega (arith, w .code-near bytes read-whole, w .short-code bytes, w .pool-short read-whole, w .indices-short);
+      handlers-long = λ q e. let same : q ≡ p = cc in ap handlersLength (sym same);
       handlers-part = handlers-is sheet slots kinds words bytes p (r .read) (r .fits);
       small-stack = w .small-stack bytes;
       small-locals = w .small-locals bytes;

@@ -1,4 +1,4 @@
--- Laws for this crate's functions
-mod Answers
+-- Laws for this crate's functions; Answers is cited by workbook too
+pub mod Answers
 mod Constants
 mod Fronts

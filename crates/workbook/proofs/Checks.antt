@@ -1,18 +1,20 @@
 -- What is asked of the lent words before a call, and a call by the answers. Assumes nothing.
-use Prim.Native.Nat.{ℕ, _≤_, _<_}
-use mathlib.Core.Path.{_≡_, refl}
+use Prim.Native.Nat.{ℕ, _^_, _≤_, _<_}
+use mathlib.Core.Path.{_≡_, refl, sym, ap, _∙_}
 use mathlib.Core.Bool.{Bool, true, false}
 use mathlib.Core.List.{List, []}
 use native.Mathlib.Omega.{arith}
-use lib.Dec.{leb}
+use lib.Dec.{ltb, leb}
 use lib.ListN.{length, getD}
-use borrow.Author.Tests.{leb-true, lt-leb, le-leb}
+use borrow.Author.Tests.{ltb-true, leb-true, leb-false, lt-leb, le-leb, lt-ltb, le-ltb}
+use Rattle.rules.specs.declared.Reading.{Reading}
 use Rattle.rules.specs.Check.{Check, passed, refused, _else_, _>>_, isPassed}
 use Rattle.rules.specs.Step.{Stepped}
+use Rattle.rules.specs.Sheet.{handlersLength}
 use Rattle.rules.specs.History.{AfterPress}
 use Rattle.rules.proofs.Check.{first-passed, last-passed, last-asked, is-passed}
 use Rattle.workbook.specs.StateWords.{stateSize, lengthsCheck, sizesCheck}
-use Rattle.workbook.specs.Calls.{unchanged, callBy, stepCallBy}
+use Rattle.workbook.specs.Calls.{unchanged, callBy, stepCallBy, wordsCheck}
 
 -- two questions whose no is 1
 two-no : (a b : Bool) → isPassed ((a else 1) >> (b else 1)) ≡ false → ((a else 1) >> (b else 1)) ≡ refused 1
@@ -42,6 +44,51 @@ module _ (state answer : List ℕ) (n : ℕ) where
       let a = first-passed _ 1 _ (is-passed (lengthsCheck state answer n) e) in
       (leb-true _ _ (a .0), leb-true _ _ (last-passed _ 1 (a .1)))
 
+-- ---- question 26 of the words of a load
+
+-- a word is at most 2 ^ 32 - 1
+pub word-most : (n : ℕ) → leb n 4294967295 ≡ ltb n (2 ^ 32)
+word-most n = go (leb n 4294967295) refl
+  where
+    go : (t : Bool) → leb n 4294967295 ≡ t → t ≡ ltb n (2 ^ 32)
+    go true e = sym (lt-ltb n (2 ^ 32) (omega (arith, leb-true n 4294967295 e)))
+    go false e = sym (le-ltb n (2 ^ 32) (omega (arith, leb-false n 4294967295 e)))
+
+module _ (state answer : List ℕ) (p : Reading) where
+  pub words-short : isPassed (lengthsCheck state answer 4) ≡ false → wordsCheck state answer p ≡ refused 26
+  unfolding lengthsCheck wordsCheck _else_ _>>_
+  words-short e = go (leb stateSize (length state)) (leb 4 (length answer)) e
+    where
+      go : (a b : Bool) → isPassed ((a else 1) >> (b else 1)) ≡ false → ((a else 26) >> (b else 26) >> (ltb (handlersLength p) (2 ^ 32) else 26)) ≡ refused 26
+      go false b h = refl
+      go true false h = refl
+      go true true h = let z : _≡_ {A = ℕ} 0 1 = cc in absurd (omega arith)
+
+  pub words-long : isPassed (lengthsCheck state answer 4) ≡ true → wordsCheck state answer p ≡ (ltb (handlersLength p) (2 ^ 32) else 26)
+  unfolding wordsCheck _else_ _>>_
+  words-long e = let (h, k) = lengths-yes state answer 4 e in simp (le-leb _ _ h, le-leb _ _ k)
+
+  pub words-no : isPassed (wordsCheck state answer p) ≡ false → wordsCheck state answer p ≡ refused 26
+  unfolding wordsCheck _else_ _>>_
+  words-no e = go (leb stateSize (length state)) (leb 4 (length answer)) (ltb (handlersLength p) (2 ^ 32)) e
+    where
+      go : (a b d : Bool) → isPassed ((a else 26) >> (b else 26) >> (d else 26)) ≡ false → ((a else 26) >> (b else 26) >> (d else 26)) ≡ refused 26
+      go false b d h = refl
+      go true false d h = refl
+      go true true false h = refl
+      go true true true h = let z : _≡_ {A = ℕ} 0 1 = cc in absurd (omega arith)
+
+  -- so that a load which is refused here has a number above 0
+  pub words-above : (n : ℕ) → wordsCheck state answer p ≡ refused n → 0 < n
+  words-above n e = let same = words-no (ap isPassed e) in let k : n ≡ 26 = cc in omega arith
+
+  pub words-yes : wordsCheck state answer p ≡ passed tt → (stateSize ≤ length state) × (4 ≤ length answer) × (handlersLength p < 2 ^ 32)
+  unfolding wordsCheck
+  words-yes e =
+      let a = first-passed _ 26 _ e in
+      let b = first-passed _ 26 _ (a .1) in
+      (leb-true _ _ (a .0), leb-true _ _ (b .0), ltb-true _ _ (last-passed _ 26 (b .1)))
+
 -- ---- the sizes
 
 module _ (ws : List ℕ) where
@@ -64,10 +111,6 @@ module _ (ws : List ℕ) where
       (leb-true _ _ (a .0), leb-true _ _ (last-passed _ 1 (a .1)))
 
 -- what passes them
-pub lengths-long : (state answer : List ℕ) (n : ℕ) → lengthsCheck state answer n ≡ passed tt → stateSize ≤ length state
-unfolding lengthsCheck
-lengths-long state answer n e = leb-true _ _ (first-passed _ 1 _ e .0)
-
 pub lengths-pass : (state answer : List ℕ) (n : ℕ) → stateSize ≤ length state → n ≤ length answer → lengthsCheck state answer n ≡ passed tt
 unfolding lengthsCheck _else_ _>>_
 lengths-pass state answer n h k = simp (le-leb _ _ h, le-leb _ _ k)

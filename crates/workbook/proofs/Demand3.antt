@@ -17,12 +17,12 @@ use Rattle.rules.specs.declared.Pressed.the-variants.{Granted, Return, Throw, R
 use Rattle.rules.specs.declared.End.the-variants as End
 use Rattle.rules.specs.declared.Load.{Load}
 use Rattle.rules.specs.declared.Load.the-variants as Load
-use Rattle.rules.specs.Check.{Check, passed, refused, _else_, _>>_}
+use Rattle.rules.specs.Check.{Check, passed, refused, _else_, _>>=_, _>>_}
 use Rattle.rules.specs.Fetch.{u8}
 use Rattle.rules.specs.Questions.{Method, method}
 use Rattle.rules.specs.Step.{Machine, coreRules, coreMachine, frame, beyond, zeroed, decideOn}
 use Rattle.rules.specs.Run.{uncounted}
-use Rattle.rules.specs.Sheet.{sheetCheck, loadedPool, loadOf}
+use Rattle.rules.specs.Sheet.{sheetCheck, loadedPool, loadOf, codeOf}
 use Rattle.rules.specs.History.{AfterPress, grantedBy, forwardBy, forwardOf, backCheck, backBy, backOf}
 use Rattle.rules.specs.PlainWalk.{PlainWalk, Press, forward, back, plainAnswers, plainNet, scratchFrom}
 use Rattle.rules.specs.Walk.{pressOf, Walked, walkOf, Demand3}
@@ -34,9 +34,9 @@ use Rattle.rules.proofs.AcceptedLoad.{was-read, Said, accepted-said, refused-ab
 use Rattle.rules.proofs.FromSheet.{demand3}
 use Rattle.rules.proofs.Replay.{from-any-load}
 use Rattle.workbook.specs.StateWords.{stateWords, stateIn, stateSize, withState, lengthsCheck, sizesCheck}
-use Rattle.workbook.specs.Calls.{Called, stateAfter, answerAfter, forwardCall, backCall, withSteps, runCall, pressesMade, pressesCall, shortNumber, LoadCalled, loadBy, loadFor, loadCall}
+use Rattle.workbook.specs.Calls.{Called, stateAfter, answerAfter, forwardCall, backCall, withSteps, runCall, pressesMade, pressesCall, LoadCalled, partsOf, wordsCheck, loadBy, loadFor, loadCall}
 use Rattle.workbook.specs.Demand3.{methodLeft, Calls, pressCall, callsOf, answersLeft, Demand3OfCalls, FromThisLoad, LeftByLoad, FromAnyLoadCall}
-use Rattle.workbook.proofs.Checks.{lengths-long, lengths-pass, sizes-pass}
+use Rattle.workbook.proofs.Checks.{lengths-pass, words-yes, words-above, sizes-pass}
 
 -- ---- a state, written and read again, is the state
 
@@ -166,35 +166,39 @@ record LoadLeft (sheet slots kinds words state answer : List ℕ) : Type 0 where
   accepted : loadOf sheet slots kinds words .loaded .answer ≡ Load.Accepted
   is : let m = loadOf sheet slots kinds words in
       loadCall sheet slots kinds words state answer
-      ≡ record { number = 0; slots = m .slots; kinds = m .kinds; words = m .words; state = withState state (m .loaded .state); answer = paste answer 0 (m .loaded .code ∷ m .loaded .«code_length» ∷ []) 2 }
+      ≡ record { number = 0; slots = m .slots; kinds = m .kinds; words = m .words; state = withState state (m .loaded .state); answer = paste answer 0 (partsOf (m .loaded)) 4 }
 
-short-above : (sheet : List ℕ) (x : Check Reading) → sheetCheck sheet ≡ x → 0 < shortNumber x
-short-above sheet (passed p) e = omega arith
-short-above sheet (refused n) e = sheet-numbered sheet n e
+module _ (sheet slots kinds words state answer : List ℕ) where
+  load-numbered : (a : Load) → loadBy state answer (loadOf sheet slots kinds words) a .number ≡ loadAnswer a .number
+  load-numbered Load.Accepted = refl
+  load-numbered (Load.Refused k) = refl
 
-load-left : (sheet slots kinds words state answer : List ℕ) → loadCall sheet slots kinds words state answer .number ≡ 0 → LoadLeft sheet slots kinds words state answer
-unfolding loadCall
-load-left sheet slots kinds words state answer h = go (lengthsCheck state answer 4) refl h
-  where
-    by-answer : lengthsCheck state answer 4 ≡ passed tt → (a : Load) → loadOf sheet slots kinds words .loaded .answer ≡ a → loadAnswer a .number ≡ 0 → LoadLeft sheet slots kinds words state answer
-    by-answer l Load.Accepted e z = record { enough = lengths-long state answer 4 l; accepted = e; is = rw (l, e) }
-    by-answer l (Load.Refused k) e z = absurd (omega (arith, refused-above sheet slots kinds words k e))
+  left-by-answer : (p : Reading) → sheetCheck sheet ≡ passed p → wordsCheck state answer p ≡ passed tt → (a : Load) → loadOf sheet slots kinds words .loaded .answer ≡ a → loadAnswer a .number ≡ 0
+      → LoadLeft sheet slots kinds words state answer
+  unfolding loadCall _>>=_
+  left-by-answer p r w Load.Accepted e z = record { enough = words-yes state answer p w .0; accepted = e; is = rw (r, w, e) }
+  left-by-answer p r w (Load.Refused k) e z = absurd (omega (arith, refused-above sheet slots kinds words k e))
 
-    numbered : (a : Load) → loadBy state answer (loadOf sheet slots kinds words) a .number ≡ loadAnswer a .number
-    numbered Load.Accepted = refl
-    numbered (Load.Refused k) = refl
+  left-by-words : (p : Reading) → sheetCheck sheet ≡ passed p → (x : Check (Unit {0})) → wordsCheck state answer p ≡ x → loadFor sheet slots kinds words state answer x .number ≡ 0
+      → LoadLeft sheet slots kinds words state answer
+  left-by-words p r (passed t) w z = left-by-answer p r w (loadOf sheet slots kinds words .loaded .answer) refl (sym (load-numbered (loadOf sheet slots kinds words .loaded .answer)) ∙ z)
+  left-by-words p r (refused n) w z = absurd (omega (arith, words-above state answer p n w))
 
-    go : (x : Check (Unit {0})) → lengthsCheck state answer 4 ≡ x → loadFor sheet slots kinds words state answer x .number ≡ 0 → LoadLeft sheet slots kinds words state answer
-    go (passed t) l z = by-answer l (loadOf sheet slots kinds words .loaded .answer) refl (sym (numbered (loadOf sheet slots kinds words .loaded .answer)) ∙ z)
-    go (refused n) l z = absurd (omega (arith, short-above sheet (sheetCheck sheet) refl))
+  load-left : loadCall sheet slots kinds words state answer .number ≡ 0 → LoadLeft sheet slots kinds words state answer
+  unfolding loadCall _>>=_
+  load-left h = go (sheetCheck sheet) refl h
+    where
+      go : (x : Check Reading) → sheetCheck sheet ≡ x → loadFor sheet slots kinds words state answer (x >>= λ p. wordsCheck state answer p) .number ≡ 0 → LoadLeft sheet slots kinds words state answer
+      go (passed p) r z = left-by-words p r (wordsCheck state answer p) refl z
+      go (refused n) r z = absurd (omega (arith, sheet-numbered sheet n r))
 
 module _ (sheet slots kinds words state answer : List ℕ) (bytes : (i : ℕ) → u8 sheet i < 256) (left : LoadLeft sheet slots kinds words state answer) where
   said : Said sheet (loadOf sheet slots kinds words .loaded)
   said = accepted-said sheet slots kinds words bytes (left .accepted)
 
-  -- the part of the sheet at the answer words is the code
+  -- the parts of the sheet at the answer words are the code and the handlers
   method-left : methodLeft sheet (loadCall sheet slots kinds words state answer) ≡ loadedMethod sheet (loadOf sheet slots kinds words)
-  method-left = rw (left .is, said .is-part)
+  method-left = rw (left .is, said .is-part, said .handlers-part)
 
   state-left : stateIn (loadCall sheet slots kinds words state answer .state) ≡ loadOf sheet slots kinds words .loaded .state
   state-left = rw (left .is) (state-again state (loadOf sheet slots kinds words .loaded .state))
@@ -243,6 +247,9 @@ module _ (f : PlainWalk) (slots state answer : List ℕ) (presses : List Press) 
       }
 
 module _ (sheet slots kinds words state answer : List ℕ) (bytes : (i : ℕ) → u8 sheet i < 256) where
+  abbrev takenAt : ℕ → ℕ → List ℕ
+  takenAt at n = take n (drop at sheet)
+
   module _ (log : List ℕ) (presses : List Press) where
     -- demand 3 of a walk on the slots that the load left, by its method and its state
     abbrev OfWalk : Method → State → List ℕ → Type 0
@@ -254,9 +261,10 @@ module _ (sheet slots kinds words state answer : List ℕ) (bytes : (i : ℕ) �
         let m = loadOf sheet slots kinds words in
         let said = accepted-said sheet slots kinds words bytes (left .accepted) in
         subst (λ (c : LoadCalled). OfWalk (methodLeft sheet c) (stateIn (c .state)) (c .slots)) (sym (left .is))
-        (subst (λ (s : State). OfWalk (method (take (m .loaded .«code_length») (drop (m .loaded .code) sheet)) (m .kinds) (m .words)) s (m .slots)) (sym (state-again state (m .loaded .state)))
-        (subst (λ (code : List ℕ). OfWalk (method code (m .kinds) (m .words)) (m .loaded .state) (m .slots)) (said .is-part)
-        (demand3 coreRules core-lawful sheet slots kinds words bytes (left .accepted) log presses)))
+        (subst (λ (s : State). OfWalk (method (takenAt (m .loaded .code) (m .loaded .«code_length»)) (m .kinds) (m .words) (takenAt (m .loaded .handlers) (m .loaded .«handlers_length»))) s (m .slots)) (sym (state-again state (m .loaded .state)))
+        (subst (λ (code : List ℕ). OfWalk (method code (m .kinds) (m .words) (takenAt (m .loaded .handlers) (m .loaded .«handlers_length»))) (m .loaded .state) (m .slots)) (said .is-part)
+        (subst (λ (handlers : List ℕ). OfWalk (method (codeOf sheet (m .loaded)) (m .kinds) (m .words) handlers) (m .loaded .state) (m .slots)) (said .handlers-part)
+        (demand3 coreRules core-lawful sheet slots kinds words bytes (left .accepted) log presses))))
 
   pub from-this-load : FromThisLoad sheet (loadCall sheet slots kinds words state answer)
   from-this-load z log lent presses k =

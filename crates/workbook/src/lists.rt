@@ -20,6 +20,7 @@ fn refuse_presses(
     code: &[u8],
     kinds: &[u8],
     words: &[u32],
+    handlers: &[u8],
     log: &mut [u32],
     bytes: &[u8],
     answers: &mut [u32],
@@ -33,6 +34,7 @@ fn refuse_presses(
         code,
         kinds,
         words,
+        handlers,
         &mut slots,
         log,
         loaded_state(1, 1, 0),
@@ -64,7 +66,7 @@ pub extern "C" fn workbook_presses(
         return 1;
     }
     if !sizes_fit(state) {
-        refuse_presses(code, kinds, words, log, bytes, answers);
+        refuse_presses(code, kinds, words, handlers, log, bytes, answers);
         return 0;
     }
     let s = read_state(state);

@@ -11,7 +11,7 @@ use memory::{Function, Lent, Memory, GUARD};
 use std::fmt::{Display, UpperHex};
 use std::fs;
 use std::path::{Path, PathBuf};
-use workbook_host::records::{arguments, record, sizes};
+use workbook_host::records::{arguments, constant, record, sizes};
 use workbook_host::{Answer, Parts, Press, Ran, Refusal, State};
 
 /// A sample: its sheet, and what `walksheet` prints of it.
@@ -70,7 +70,7 @@ pub fn refused(number: u32) -> Answer {
 pub const STATE_WORDS: usize = 7;
 pub const ANSWER_WORDS: usize = 4;
 
-/// A sheet without constants.
+/// A sheet without constants and handlers.
 pub fn sheet(max_stack: u16, max_locals: u16, code: &[u8], words: &[u32]) -> Vec<u8> {
     [
         sizes(max_stack, max_locals),
@@ -78,6 +78,22 @@ pub fn sheet(max_stack: u16, max_locals: u16, code: &[u8], words: &[u32]) -> Vec
         arguments(words),
     ]
     .concat()
+}
+
+/// A sheet without arguments, with constants and handlers between its code and its end.
+pub fn sheet_with(max_stack: u16, max_locals: u16, code: &[u8], records: &[Vec<u8>]) -> Vec<u8> {
+    [
+        sizes(max_stack, max_locals),
+        record(b"CD", code),
+        records.concat(),
+        arguments(&[]),
+    ]
+    .concat()
+}
+
+/// The record of a class: 1 where an ArithmeticException can be assigned to it, else 0.
+pub fn class(index: u16, word: u32) -> Vec<u8> {
+    constant(index, 7, &word.to_be_bytes())
 }
 
 /// A sheet with a descriptor, which stands between the sizes and the code.
@@ -148,6 +164,7 @@ impl Memory {
             code: 0..0,
             kinds: Lent::new(&vec![0xCC; lengths.kinds], 0x5A),
             words: junk(lengths.words),
+            handlers: Lent::new(&[], 0x5A),
             slots: junk(lengths.slots),
             log: junk(lengths.log),
             state: junk(lengths.state),
@@ -162,7 +179,7 @@ impl Memory {
     pub fn loaded(sheet: &[u8], lengths: Lengths) -> Memory {
         let mut memory = Memory::new(sheet, lengths);
         assert_eq!(memory.load(), 0);
-        memory.take_code();
+        memory.take_parts();
         memory.answer.part_mut().fill(0xDEAD_BEEF);
         memory
     }
@@ -174,6 +191,11 @@ impl Memory {
         memory.state.part_mut()[2] = pc;
         memory.state.part_mut()[3] = stack.len() as u32;
         memory
+    }
+
+    /// Lends handlers that no load has seen: bytes of any length.
+    pub fn lend_handlers(&mut self, bytes: &[u8]) {
+        self.handlers = self.handlers.with(bytes);
     }
 
     /// Makes the state and the answer parts of other lengths.
@@ -219,6 +241,7 @@ impl Memory {
             code: self.code(),
             kinds: self.kinds.part(),
             words: self.words.part(),
+            handlers: self.handlers.part(),
         }
     }
 
@@ -234,7 +257,7 @@ impl Memory {
 /// A loaded sheet with its memory, for the typed functions.
 #[derive(Clone, PartialEq)]
 pub struct Lesson {
-    /// What is only read: the sheet with its code, and the pool.
+    /// What is only read: the sheet with its code, the pool and the handlers.
     pub memory: Memory,
     pub slots: Lent<u32>,
     pub log: Lent<u32>,
@@ -254,6 +277,7 @@ impl Lesson {
         let (kinds, words) = (memory.kinds.part_mut(), memory.words.part_mut());
         let loaded = workbook_host::load(sheet, slots.part_mut(), kinds, words).unwrap();
         memory.code = loaded.code;
+        memory.lend_handlers(&sheet[loaded.handlers]);
         Lesson {
             memory,
             slots,

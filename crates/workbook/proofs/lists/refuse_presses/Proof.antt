@@ -26,9 +26,9 @@ same-length-2 c = search needs
 
 returns : tie.Need-returns
 returns c =
-    let a = c .before .before .before .before .before .before .before .before .before .before .before .before .before .before .before .before .args in
+    let a = c .before .before .before .before .before .before .before .before .before .before .before .before .before .before .before .before .before .args in
     let l = method (now (a .code)) (now (a .kinds)) (now (a .words)) (now (a .handlers)) in
-    list-refused l (loadedState 1 1 0) (0 ∷ []) (no-room l (loadedState 1 1 0) (0 ∷ []) (omega arith)) (now (a .bytes)) (now (a .log)) (now (a .answers)) (c .before .before .before .before .before .before .before .before .before .before .before .before .before .before .before .before .pre) _ (rw (c .before .before .before .before .before .before .before .loaded-state .ensures) at (c .before .before .before .before .before .presses .ensures .0))
+    list-refused l (loadedState 1 1 0) (0 ∷ []) (no-room l (loadedState 1 1 0) (0 ∷ []) (omega arith)) (now (a .bytes)) (now (a .log)) (now (a .answers)) (c .before .before .before .before .before .before .before .before .before .before .before .before .before .before .before .before .before .pre) _ (rw (c .before .before .before .before .before .before .before .loaded-state .ensures) at (c .before .before .before .before .before .presses .ensures .0))
 
 pub refuse-presses-spec : {M : Type 1} → statement M
 refuse-presses-spec =

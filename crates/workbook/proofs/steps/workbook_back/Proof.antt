@@ -13,9 +13,9 @@ use Rattle.workbook.proofs.steps.workbook_back.Statement.{statement}
 use Rattle.workbook.proofs.steps.workbook_back.Tie as tie
 
 returns : tie.Need-returns
-returns c =
+returns c = λ handlers.
     let a = c .before .before .before .before .before .before .before .args in
-    let l = method (now (a .code)) (now (a .kinds)) (now (a .words)) (now (a .handlers)) in
+    let l = method (now (a .code)) (now (a .kinds)) (now (a .words)) handlers in
     back-short l (now (a .slots)) (now (a .log)) (now (a .state)) (c .if1 .taken)
 
 sizes-fit-requires : tie.Need-sizes-fit-requires
@@ -25,9 +25,9 @@ same-length : tie.Need-same-length
 same-length c = search needs
 
 returns-2 : tie.Need-returns-2
-returns-2 c =
+returns-2 c = λ handlers.
     let a = c .before .before .before .before .before .before .before .before .before .before .args in
-    let l = method (now (a .code)) (now (a .kinds)) (now (a .words)) (now (a .handlers)) in
+    let l = method (now (a .code)) (now (a .kinds)) (now (a .words)) handlers in
     back-sizes l (now (a .slots)) (now (a .log)) (now (a .state)) (c .before .before .before .if1 .left) (sizes-no _ (sym (c .before .sizes-fit .ensures) ∙ not-true _ (c .if2 .taken)))
 
 read-state-requires : tie.Need-read-state-requires
@@ -46,10 +46,10 @@ same-length-3 : tie.Need-same-length-3
 same-length-3 c = search needs
 
 returns-3 : tie.Need-returns-3
-returns-3 c =
+returns-3 c = λ handlers.
     let a = c .before .before .before .before .before .before .before .before .before .before .before .before .before .before .before .before .before .before .before .before .args in
-    let l = method (now (a .code)) (now (a .kinds)) (now (a .words)) (now (a .handlers)) in
-    back-made (coreMachine l) (now (a .slots)) (now (a .log)) (now (a .state)) [] (is-passed _ (sym (c .before .before .before .before .before .before .before .before .before .before .before .sizes-fit .ensures) ∙ not-false _ (c .before .before .before .before .before .before .before .before .before .before .if2 .left))) _ _ _ _ (now (a .log)) _ [] (c .before .before .leave .ensures .0) (c .before .before .leave .ensures .1) (c .before .before .before .before .before .before .before .before .before .before .before .before .before .if1 .left) (rw (c .before .before .before .before .before .before .before .read-state .ensures) at (c .before .before .before .before .before .before .back .ensures))
+    let l = method (now (a .code)) (now (a .kinds)) (now (a .words)) handlers in
+    back-made (coreMachine l) (now (a .slots)) (now (a .log)) (now (a .state)) [] (is-passed _ (sym (c .before .before .before .before .before .before .before .before .before .before .before .sizes-fit .ensures) ∙ not-false _ (c .before .before .before .before .before .before .before .before .before .before .if2 .left))) _ _ _ _ (now (a .log)) _ [] (c .before .before .leave .ensures .0) (c .before .before .leave .ensures .1) (c .before .before .before .before .before .before .before .before .before .before .before .before .before .if1 .left) (rw (c .before .before .before .before .before .before .before .read-state .ensures) at (c .before .before .before .before .before .before .back .ensures handlers))
 
 pub workbook-back-spec : {M : Type 1} → statement M
 workbook-back-spec =
