@@ -81,6 +81,36 @@ fn the_printed_walk() {
 }
 
 #[test]
+fn a_division_is_caught() {
+    // 5 / 0 at offset 2, and a handler at 4 that gives what it finds.
+    let walk = |class: &str, handler: &str| {
+        let sheet = format!("4C4D000400020000 4344000508036CACAC {class} {handler} 41520000")
+            .replace(' ', "");
+        printed(&bytes(&sheet).unwrap()).join("\n")
+    };
+    let steps = "step pc op depth top\n0 0 8 0 -\n1 1 3 1 00000005";
+    let caught = format!("{steps}\n2 2 108 2 00000000\nreturn int 00000001");
+    let thrown = format!("{steps}\nthrow arithmetic");
+    let (yes, no) = ("4B490007 00010700000001", "4B490007 00010700000000");
+    for (class, handler, expected) in [
+        ("", "45580008 0002 0003 0004 0000", &caught[..]),
+        ("", "45580008 0000 0005 0004 0000", &caught),
+        ("", "45580008 0000 0002 0004 0000", &thrown),
+        ("", "45580008 0003 0005 0004 0000", &thrown),
+        (yes, "45580008 0002 0003 0004 0001", &caught),
+        (no, "45580008 0002 0003 0004 0001", &thrown),
+        ("", "", &thrown),
+        ("", "45580008 0002 0003 0005 0000", "sheet 33"),
+        ("", "45580008 0002 0003 0004 0001", "sheet 33"),
+        ("", "45580007 0002 0003 0004 00", "sheet 33"),
+        ("45580008 0002 0003 0004 0000", yes, "sheet 23"),
+        ("4B490007 00010700000002", "", "sheet 25"),
+    ] {
+        assert_eq!(walk(class, handler), expected, "{class} {handler}");
+    }
+}
+
+#[test]
 fn lines_of_the_page_of_opcodes() {
     let page = page();
     let lines: Vec<&str> = page.lines().collect();
