@@ -1,1 +1,1 @@
-pub mod Search
+mod Answers

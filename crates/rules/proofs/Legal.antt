@@ -22,7 +22,7 @@ use Rattle.rules.specs.Fetch.{Instruction, fetched}
 use Rattle.rules.specs.Returns.{returned}
 use Rattle.rules.specs.Questions.{Method, frameSize, pushed, frameCheck, needsCheck}
 use Rattle.rules.specs.Handlers.{handlerAt}
-use Rattle.rules.specs.Step.{frame, base, firstPlace, inside, ordinary, following, target, thrownTo, thrownAt, outcome, decision, decideFrame, decideOf, moved, updateWords, written}
+use Rattle.rules.specs.Step.{frame, base, firstPlace, inside, ordinary, following, target, handlerTarget, thrownTo, thrownAt, outcome, decision, decideFrame, decideOf, moved, updateWords, written}
 use Rattle.rules.proofs.Check.{Holds, asked, after, bound, held, either}
 use Rattle.rules.proofs.Rows.{of-row, small, small-row, few-pushed, one-named, few-named, local-within}
 use Rattle.rules.proofs.Questions.{Framed, framed, Needed, needed}
@@ -108,10 +108,10 @@ module _ (l : Method) (n : ℕ) (s : State) where
     thrown-fine none = tt
     thrown-fine (some h) = asked Fine _ 8 _ (λ t.
         let one = leb-true 1 (s .«max_stack») t in
-        bound Fine (inside (l .code) (pos h)) _ (λ p e. record {
+        bound Fine (inside (l .code) (handlerTarget s h)) _ (λ p e. record {
           frame-there = f;
-          new-pc = held InCode (inside (l .code) (pos h)) p (inside-code (pos h)) e;
-          new-depth = one;
+          new-pc = held InCode (inside (l .code) (handlerTarget s h)) p (inside-code (handlerTarget s h)) e;
+          new-depth = omega (arith, f .deep);
           few = omega arith;
           within = omega arith;
         }))

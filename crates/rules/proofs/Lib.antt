@@ -3,6 +3,7 @@ pub mod Check
 pub mod Rows
 pub mod Questions
 pub mod Step
+pub mod Handlers
 pub mod Fetched
 pub mod Legal
 pub mod Answers

@@ -20,7 +20,7 @@ use Rattle.rules.specs.Fetch.{u8, Instruction, coreRow, core, sized, wid
 use Rattle.rules.specs.Returns.{returned}
 use Rattle.rules.specs.Questions.{Method, pushed, frameCheck, needsCheck}
 use Rattle.rules.specs.Handlers.{handlerAt}
-use Rattle.rules.specs.Step.{base, inside, ordinary, following, target, thrownTo, thrownAt, outcome, decision, decideFrame}
+use Rattle.rules.specs.Step.{base, inside, ordinary, following, target, handlerTarget, thrownTo, thrownAt, outcome, decision, decideFrame}
 use Rattle.rules.proofs.Check.{Any, Numbered, last-numbered, after-numbered, bound-numbered, asked-numbered, either-numbered}
 use Rattle.rules.proofs.Step.{result}
 
@@ -108,7 +108,7 @@ module _ (l : Method) (s : State) where
   thrown-numbered : (x : Option ℕ) → Numbered OfStep Fine (thrownTo (l .code) s x)
   unfolding Numbered
   thrown-numbered none = tt
-  thrown-numbered (some h) = asked-numbered OfStep Fine _ 8 _ refl (bound-numbered OfStep Fine (inside (l .code) (pos h)) _ (inside-numbered (pos h)) (λ pc. tt))
+  thrown-numbered (some h) = asked-numbered OfStep Fine _ 8 _ refl (bound-numbered OfStep Fine (inside (l .code) (handlerTarget s h)) _ (inside-numbered (handlerTarget s h)) (λ pc. tt))
 
   outcome-numbered : (i : Instruction) (r : Result) → Numbered OfStep Fine (outcome l s i r)
   unfolding Numbered thrownAt

@@ -74,12 +74,15 @@ ordinary l s i to at n ws = do
   pc ← inside (l .code) to
   passed (Ordinary (update pc (s .depth - popped i + pushed i) at n ws))
 
--- the offset of the next instruction, and the target of a branch, which is counted from the opcode
+-- the offset of the next instruction; the target of a branch, which is counted from the opcode; that of a handler, which is counted from the code's start
 abbrev pub following : State → Instruction → ℤ
 following s i = pos (s .pc + i .size)
 
 abbrev pub target : State → ℤ → ℤ
 target s z = pos (s .pc) +ℤ z
+
+abbrev pub handlerTarget : State → ℕ → ℤ
+handlerTarget s handler = pos handler
 
 -- a return of a value, with question 32
 abbrev pub returnOf : ℕ → Value → Check Decision
@@ -92,7 +95,7 @@ returnOf t v = do
 abbrev pub caughtAt : List ℕ → State → ℕ → Check Decision
 caughtAt code s handler = do
   1 ≤ⁿ s .«max_stack» else 8
-  pc ← inside code (pos handler)
+  pc ← inside code (handlerTarget s handler)
   passed (Ordinary (update pc 1 (s .«max_locals») 1 (1 ∷ [])))
 
 -- an ArithmeticException that is thrown at an offset: caught by the method's handlers, or the outcome

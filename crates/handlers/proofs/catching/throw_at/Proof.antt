@@ -5,7 +5,7 @@ use mathlib.Core.Option.{Option, none, some}
 use denote.Ref.{now}
 use Rattle.rules.specs.Step.{thrownTo, thrownAt, decision}
 use Rattle.rules.specs.Handlers.{handlerAt}
-use Rattle.handlers.proofs.Search.{found-none, found-some}
+use Rattle.handlers.proofs.Answers.{found-none, found-some}
 use borrow.Author.Needs.{needs}
 use Rattle.handlers.proofs.catching.throw_at.Statement.{statement}
 use Rattle.handlers.proofs.catching.throw_at.Tie as tie

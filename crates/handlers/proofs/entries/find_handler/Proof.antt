@@ -7,7 +7,7 @@ use lib.ListN.{length}
 use denote.Ref.{now}
 use Rattle.rules.specs.Handlers.{handlerFrom, handlerAt}
 use Rattle.handlers.specs.Found.{found}
-use Rattle.handlers.proofs.Search.{caught-here, not-here}
+use Rattle.rules.proofs.Handlers.{caught-here, not-here}
 use Rattle.handlers.proofs.entries.find_handler.Statement.{statement}
 use Rattle.handlers.proofs.entries.find_handler.Tie as tie
 
