@@ -16,9 +16,10 @@
 //! ```
 //!
 //! START, END and AT are labels of the listing, END also one after its last instruction, or offsets
-//! in the code; TYPE is any, or the index of a class. KIND is int, long, float or double. VALUE is a decimal number, of which a float or a double gets
-//! the nearest value; or it is the bits, an h and then 8 or 16 hexadecimal digits. A sheet that these
-//! lines cannot give, as it is wrong in itself, is given by its bytes and nothing else:
+//! in the code; TYPE is any, or the index of a class. KIND is int, long, float or double. VALUE is a
+//! decimal number, of which a float or a double gets the nearest value; or it is the bits, an h and
+//! then 8 or 16 hexadecimal digits. A sheet that these lines cannot give, as it is wrong in itself,
+//! is given by its bytes and nothing else:
 //!
 //! ```text
 //! bytes DIGITS                  as many lines as there are, in hexadecimal

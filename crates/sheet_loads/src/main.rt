@@ -16,7 +16,7 @@ use printing::print_word;
 const MOST: u64 = 100_000;
 
 // Loads a sheet, and prints the answer.
-fn load_sheet(sheet: &[u8], slots: &mut [u32], kinds: &mut [u8], words: &mut [u32]) {
+fn print_loaded(sheet: &[u8], slots: &mut [u32], kinds: &mut [u8], words: &mut [u32]) {
     let loaded = sheet::load(sheet, slots, kinds, words);
     print_load(loaded);
     print_sum_of_bytes(b" kinds", kinds);
@@ -27,6 +27,14 @@ fn load_sheet(sheet: &[u8], slots: &mut [u32], kinds: &mut [u8], words: &mut [u3
     let handlers = sheet::handlers_of(sheet, loaded);
     print_sum_of_bytes(b" handlers", handlers);
     print(b"\n");
+}
+
+// Loads a sheet into memory that holds junk.
+fn load_sheet(sheet: &[u8], slots: &mut [u32], kinds: &mut [u8], words: &mut [u32]) {
+    memory::fill_slots(slots);
+    memory::fill_kinds(kinds);
+    memory::fill_words(words);
+    print_loaded(sheet, slots, kinds, words);
 }
 
 // Loads the first n bytes.
@@ -67,9 +75,6 @@ fn trial(head: Head) {
     let mut kinds = [0u8; 65600];
     let mut words = [0u32; 65600];
     samples::read_sheet(&mut sheet, head.length);
-    memory::fill_slots(&mut slots);
-    memory::fill_kinds(&mut kinds);
-    memory::fill_words(&mut words);
     lend_slots(&sheet, head, &mut slots, &mut kinds, &mut words);
 }
 
