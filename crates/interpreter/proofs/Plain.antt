@@ -42,9 +42,13 @@ pub bare-framed : (l : Method) (s : State) (n : ℕ) → frameCheck l s n ≡ pa
 unfolding frameCheck
 bare-framed l s n f = f
 
-pub no-handlers : (handlers : List ℕ) → length handlers ≡ 0 → handlers ≡ []
+no-handlers : (handlers : List ℕ) → length handlers ≡ 0 → handlers ≡ []
 no-handlers [] e = refl
 no-handlers (h ∷ hs) e = absurd (omega arith)
+
+-- and a method that has none is the same without them
+pub without-handlers : (l : Method) → length (l .handlers) ≡ 0 → (most n : ℕ) (s : State) (slots : List ℕ) → advanceFrom (bare l) (most - n) n s slots ≡ advanceFrom l (most - n) n s slots
+without-handlers l e most n s slots = ap (λ (h : List ℕ). advanceFrom (method (l .code) (l .kinds) (l .words) h) (most - n) n s slots) (sym (no-handlers (l .handlers) e))
 
 -- ---- one decision
 

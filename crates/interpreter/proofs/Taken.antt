@@ -42,6 +42,10 @@ module _ (l : Method) (s : State) (slots : List ℕ) (r : Reached) (e : r ≡ ad
       go Throw o = refl
       go (Refused n) o = refl
 
+pub step-refused : (l : Method) (s : State) (slots : List ℕ) (n : ℕ) → decideOf l s slots ≡ Refused n → record { state = s; decision = Refused n; slots = slots } ≡ stepOf (coreMachine l) s slots
+unfolding stepOf
+step-refused l s slots n e = rw e
+
 -- ---- a run: all its steps but the last, and the last
 
 abbrev lastStep : State → ℕ → List ℕ → Decision → Ran

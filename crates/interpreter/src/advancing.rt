@@ -109,7 +109,7 @@ pub(crate) fn advance_framed(
     }
 }
 
-// At most so many steps on any code, pool, slots and state; with 0, the decision alone.
+// At most so many steps on any code, pool, handlers, slots and state; with 0, the decision alone. Without handlers a press is spared the call of `advance_framed`.
 pub fn advance(
     code: &[u8],
     kinds: &[u8],
@@ -128,6 +128,11 @@ pub fn advance(
             steps: 0,
             decision: Decision::Refused(n),
         },
-        Checked::Passed => advance_framed(code, kinds, words, handlers, slots, s, most),
+        Checked::Passed => {
+            if handlers.len() == 0 {
+                return advance_plain(code, kinds, words, slots, s, 0, most);
+            }
+            advance_framed(code, kinds, words, handlers, slots, s, most)
+        }
     }
 }

@@ -12,7 +12,7 @@ use Rattle.interpreter.specs.Advance.{Reached, advanceFrom}
 use Rattle.interpreter.specs.Stages.{caught}
 use Rattle.interpreter.specs.Taken.{reached}
 use Rattle.interpreter.proofs.Steps.{Going, turn, ends-there, all-taken}
-use Rattle.interpreter.proofs.Plain.{bare, bare-framed, no-handlers, caught-settled, decide-caught, Plain, plain-steps, plain-going}
+use Rattle.interpreter.proofs.Plain.{bare-framed, without-handlers, caught-settled, decide-caught, Plain, plain-steps, plain-going}
 use borrow.Author.Needs.{needs}
 use Rattle.interpreter.proofs.advancing.advance_framed.Statement.{statement}
 use Rattle.interpreter.proofs.advancing.advance_framed.Tie as tie
@@ -68,9 +68,8 @@ returns c =
     let l = method (now (a .code)) (now (a .kinds)) (now (a .words)) (now (a .handlers)) in
     let p = plain-steps l (a .most - 0) 0 (a .s) (now (a .slots)) (c .before .before .before .before .before .before .before .before .before .before .pre) in
     let r = c .before .before .advance-plain .result in
-    let same : bare l ≡ l = ap (method (now (a .code)) (now (a .kinds)) (now (a .words))) (sym (no-handlers (now (a .handlers)) (c .before .before .before .before .if1 .taken))) in
     let e = c .before .before .advance-plain .ensures in
-    (e ∙ ap (λ (m : Method). advanceFrom m (a .most - 0) 0 (a .s) (now (a .slots))) same ∙ rw (sub-zero (a .most)), omega (arith, p .upto, ap (λ (x : Reached). x .steps) e))
+    (e ∙ without-handlers l (c .before .before .before .before .if1 .taken) (a .most) 0 (a .s) (now (a .slots)) ∙ rw (sub-zero (a .most)), omega (arith, p .upto, ap (λ (x : Reached). x .steps) e))
 
 loop-holds : tie.Need-loop-holds Inv-loop μ-loop
 loop-holds c = let p = c .before .before .before .before .before .before .pre in record { upto = omega arith; long = refl; framed = p; rest = refl }

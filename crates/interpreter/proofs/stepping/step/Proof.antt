@@ -1,63 +1,50 @@
 -- `step` meets its contract. Assumes nothing.
-use mathlib.Core.Path.{ap}
+use mathlib.Core.Path.{sym, _∙_}
 use denote.Ref.{now}
 use Rattle.rules.specs.Questions.{method}
-use Rattle.return_types.specs.Settled.{settled}
-use Rattle.interpreter.proofs.Steps.{settled-other, settled-there, legal-there}
-use Rattle.interpreter.proofs.Taken.{step-ordinary, step-other}
+use Rattle.rules.proofs.Answers.{row-passed}
+use Rattle.interpreter.proofs.Answers.{by-frame}
+use Rattle.interpreter.proofs.Taken.{step-refused}
 use borrow.Author.Needs.{needs}
 use Rattle.interpreter.proofs.stepping.step.Statement.{statement}
 use Rattle.interpreter.proofs.stepping.step.Tie as tie
 
-advance-requires : tie.Need-advance-requires
-advance-requires c κs = search needs
+check-frame-requires : tie.Need-check-frame-requires
+check-frame-requires c κs = search needs
 
-enum-known-decision : tie.Need-enum-known-decision
-enum-known-decision c = search needs
+enum-known-asked : tie.Need-enum-known-asked
+enum-known-asked c = search needs
 
-settle-requires : tie.Need-settle-requires
-settle-requires c κs = search needs
+enum-told : tie.Need-enum-told
+enum-told c = search needs
+
+step-framed-requires : tie.Need-step-framed-requires
+step-framed-requires c κs = row-passed _ (sym (c .before .enum-told .given .1) ∙ c .before .before .before .check-frame .ensures _)
 
 same-length : tie.Need-same-length
 same-length c = search needs
 
 returns : tie.Need-returns
 returns c =
-    let a = c .before .before .before .before .before .before .before .before .before .before .before .args in
+    let a = c .before .before .before .before .before .before .before .before .before .before .args in
     let l = method (now (a .code)) (now (a .kinds)) (now (a .words)) (now (a .handlers)) in
-    let r = c .before .before .before .before .advance in
-    rw (c .settle .ensures, settled-there l (a .s) (now (a .slots)) _ (r .ensures) (r .result .decision))
-    (step-other l (a .s) (now (a .slots)) _ (r .ensures) (settled-other (r .result .state .«return_type») (r .result .decision) (c .before .match .keys2)))
-
-commit-requires : tie.Need-commit-requires
-commit-requires c κs =
-    let a = c .before .before .before .before .before .before .before .before .before .before .before .before .before .args in
-    let l = method (now (a .code)) (now (a .kinds)) (now (a .words)) (now (a .handlers)) in
-    let k = legal-there l (a .s) (now (a .slots)) _ (c .before .before .before .before .before .before .advance .ensures) _ (ap (settled _) (c .before .before .decision .given .1)) in
-    (k .few, k .within, k .frame-there .room)
-
-moved-requires : tie.Need-moved-requires
-moved-requires c κs = search needs
+    step-refused l (a .s) (now (a .slots)) _ (by-frame l (a .s) (now (a .slots)) _ (sym (c .before .asked .given .1) ∙ c .before .before .before .check-frame .ensures _))
 
 same-length-2 : tie.Need-same-length-2
 same-length-2 c = search needs
 
 returns-2 : tie.Need-returns-2
-returns-2 c =
-    let a = c .before .before .before .before .before .before .before .before .before .before .before .before .before .before .before .before .before .args in
-    let l = method (now (a .code)) (now (a .kinds)) (now (a .words)) (now (a .handlers)) in
-    rw (c .moved .ensures, c .before .before .before .commit .ensures) (step-ordinary l (a .s) (now (a .slots)) _ (c .before .before .before .before .before .before .before .before .before .before .advance .ensures) _ (ap (settled _) (c .before .before .before .before .before .before .decision .given .1)))
+returns-2 c = search needs
 
 pub step-spec : {M : Type 1} → statement M
 step-spec =
     tie.close
     (tie.spec
-    advance-requires
-    enum-known-decision
-    settle-requires
+    check-frame-requires
+    enum-known-asked
+    enum-told
+    step-framed-requires
     same-length
     returns
-    commit-requires
-    moved-requires
     same-length-2
     returns-2)
