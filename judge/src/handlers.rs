@@ -1,5 +1,5 @@
 //! A throw at an offset: which entry of the exception table takes an ArithmeticException, and the step that
-//! catches it (docs/RULES.md, 'Outcomes'; JVMS 2.10, 4.7.3).
+//! catches it (docs/RULES.md, 'Handlers'; JVMS 2.10, 4.7.3).
 
 use crate::answers::{ask, Answer};
 use crate::operations::Few;
