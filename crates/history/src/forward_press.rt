@@ -55,7 +55,7 @@ pub fn pressed_by(decision: Decision) -> Pressed
     }
 }
 
-// A press of forward on any code, pool, slots, log and state. One that is not granted writes nothing.
+// A press of forward on any code, pool, handlers, slots, log and state. One that is not granted writes nothing.
 pub fn forward(
     code: &[u8],
     kinds: &[u8],

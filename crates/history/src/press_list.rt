@@ -81,7 +81,7 @@ fn make_presses(
     }
 }
 
-// A list of presses on any code, pool, slots, log and state, one byte each, with three words for each answer.
+// A list of presses on any code, pool, handlers, slots, log and state, one byte each, with three words for each answer.
 pub fn presses(
     code: &[u8],
     kinds: &[u8],

@@ -85,10 +85,10 @@ pub(crate) fn advance_framed(
     let mut steps: u64 = 0;
     loop {
         let plain = advance_plain(code, kinds, words, slots, t, steps, most);
-        let thrown = plain.decision;
+        let decided = plain.decision;
         t = plain.state;
         steps = plain.steps;
-        let decision = ask_handlers(code, kinds, words, handlers, t, thrown);
+        let decision = ask_handlers(code, kinds, words, handlers, t, decided);
         let Decision::Ordinary(u) = decision else {
             return Reached {
                 state: t,

@@ -85,7 +85,7 @@ pub(crate) fn decide_framed(
     }
 }
 
-// One step on any code, pool, slots and state.
+// One step on any code, pool, handlers, slots and state.
 pub fn decide(
     code: &[u8],
     kinds: &[u8],

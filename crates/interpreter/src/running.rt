@@ -76,7 +76,7 @@ fn run_framed(
     }
 }
 
-// A run on any code, pool, slots and state: questions 1 to 3 come first, also with budget 0.
+// A run on any code, pool, handlers, slots and state: questions 1 to 3 come first, also with budget 0.
 pub fn run(
     code: &[u8],
     kinds: &[u8],

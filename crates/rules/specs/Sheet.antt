@@ -46,7 +46,7 @@ markNumber KI = 4
 markNumber EX = 5
 markNumber AR = 6
 
--- what comes after the pool, of which every part may be missing but the code
+-- no constant comes any more: EX and AR stand after CD, after a KI or after an EX
 abbrev pub endsPool : ℕ → Bool
 endsPool last = (last =ⁿ markNumber CD) || (last =ⁿ markNumber KI) || (last =ⁿ markNumber EX)
 

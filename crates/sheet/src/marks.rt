@@ -79,7 +79,7 @@ pub(crate) fn known_mark(bytes: u16) -> Known
     Known::Refused(22)
 }
 
-// Whether a record that stands after the pool may come after the last one.
+// Whether the constants may end after the last record: EX and AR stand after them.
 fn ends_pool(last: u32) -> bool
     ensures { λ r. ⌜ r ≡ endsPool last ⌝ }
 {
