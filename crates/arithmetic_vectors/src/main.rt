@@ -1,5 +1,6 @@
 // Runs vectors from standard input through the public functions of integers, floats and conversions, and counts those that
 // differ, by function and in all. tools/vectors/arithmetic.py writes the vectors and says how a line is laid out.
+#![tactic(auto)]
 mod apply;
 
 ghost use Rattle.std.specs.Prelude.{◌≤◌};
@@ -13,21 +14,21 @@ type Line = [u8; 64];
 const MOST: u64 = 1_000_000;
 
 // What a field comes to.
-#[derive(Drop)]
+#[derive(Clone, Copy)]
 enum Field {
     Value(u64),
     Malformed,
 }
 
 // A line, and how many bytes of it there were.
-#[derive(Drop)]
+#[derive(Clone, Copy)]
 struct Input {
     line: Line,
     count: usize,
 }
 
 // How many vectors were run, and how many of them differ or are malformed.
-#[derive(Drop)]
+#[derive(Clone, Copy)]
 struct Tally {
     vectors: u64,
     differ: u64,

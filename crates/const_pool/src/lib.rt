@@ -1,4 +1,5 @@
 // The constant pool (const_pool.rs) as kinds and words: question 9, and the words of a constant as they stand, a NaN's payload included.
+#![tactic(auto)]
 ghost use Rattle.std.specs.Prelude.{◌≡◌, get_or};
 ghost use Rattle.values.specs.Kinds.{int, long, float, double};
 ghost use Rattle.const_pool.specs.Constant.{constant_of};
@@ -16,7 +17,7 @@ const CONSTANT_DOUBLE: u8 = 6;
 const NO_CONSTANT: u32 = 10;
 
 // A constant's words, the high one 0 where it has one word, or the number of the question that refuses it.
-#[derive(Drop)]
+#[derive(Clone, Copy)]
 pub enum Constant {
     Found { low: u32, high: u32 },
     Refused(u32),

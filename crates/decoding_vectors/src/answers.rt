@@ -5,7 +5,7 @@ use instructions::{Decoded, decode, entry};
 use operands::{lookup_offset, table_offset};
 
 // An answer: the number of a refusal or 0, and three numbers, 0 where there is none.
-#[derive(Drop)]
+#[derive(Clone, Copy)]
 pub(crate) struct Answer {
     pub refusal: u32,
     pub first: u64,

@@ -5,21 +5,21 @@ ghost use Rattle.std.specs.Prelude.{◌≤◌};
 pub(crate) type Line = [u8; 187];
 
 // What a field comes to.
-#[derive(Drop)]
+#[derive(Clone, Copy)]
 pub(crate) enum Field {
     Value(u32),
     Malformed,
 }
 
 // The code of a vector, with 0 after it, and whether its bytes are well formed.
-#[derive(Drop)]
+#[derive(Clone, Copy)]
 pub(crate) struct Code {
     pub bytes: [u8; 64],
     pub is_whole: bool,
 }
 
 // The constant pool of a vector, with 0 after it, and whether its entries are well formed.
-#[derive(Drop)]
+#[derive(Clone, Copy)]
 pub(crate) struct Pool {
     pub kinds: [u8; 12],
     pub words: [u32; 12],

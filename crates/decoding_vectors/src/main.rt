@@ -1,5 +1,6 @@
 // Runs vectors from standard input through `decode` of instructions, the two switches of operands and the two loads of const_pool,
 // and counts those that differ, by kind and in all. judge/src/lists/decoding writes the vectors and says how a line is laid out.
+#![tactic(auto)]
 mod answers;
 mod fields;
 
@@ -22,21 +23,21 @@ const POOL: u32 = 2;
 const UNKNOWN: u32 = 3;
 
 // A line, and how many bytes of it there were.
-#[derive(Drop)]
+#[derive(Clone, Copy)]
 struct Input {
     line: Line,
     count: usize,
 }
 
 // How many vectors were run, and how many of them differ or are malformed.
-#[derive(Drop)]
+#[derive(Clone, Copy)]
 struct Tally {
     vectors: u64,
     differ: u64,
 }
 
 // What a function is tried with: an offset or an index, a key or an opcode, and how many bytes or entries there are.
-#[derive(Drop)]
+#[derive(Clone, Copy)]
 struct Case {
     at: u32,
     key: u32,

@@ -8,14 +8,14 @@ use crate::letters::{ARRAY, CLASS, CLOSING, OPENING, VOID};
 use operands::read_code_u8;
 
 // A good descriptor, with the places of its parameters and its return type (B C D F I J L S V Z, L for every reference), or the number of its refusal.
-#[derive(Drop)]
+#[derive(Clone, Copy)]
 pub enum Descriptor {
     Good { places: u32, return_type: u32 },
     Refused(u32),
 }
 
 // The offset after the parameters, and their places: either all of them, or more than a method may have.
-#[derive(Drop)]
+#[derive(Clone, Copy)]
 struct Parameters {
     end: usize,
     places: u32,

@@ -1,4 +1,5 @@
 // The method descriptor of JVMS 4.3.3: whether bytes are one, the places of its parameters, and its return type.
+#![tactic(auto)]
 mod descriptors;
 mod fields;
 mod letters;

@@ -9,7 +9,7 @@ use integers::{high_word, low_word};
 use values::Value;
 
 // Up to six words, lowest first; those past the number that an instruction gives are 0.
-#[derive(Drop)]
+#[derive(Clone, Copy)]
 pub struct Six {
     pub w0: u32,
     pub w1: u32,
@@ -20,7 +20,7 @@ pub struct Six {
 }
 
 // Words to push or to store, an ArithmeticException, whether a branch is taken, or a value to return.
-#[derive(Drop)]
+#[derive(Clone, Copy)]
 pub enum Effect {
     Words(Six),
     Throw,

@@ -6,7 +6,7 @@ use instructions::{locals_in, pops_in, pushes_in};
 use rules::State;
 
 // The first place of an instruction on the stack, counted from the first local, and the new depth; or the number of a refusal.
-#[derive(Drop)]
+#[derive(Clone, Copy)]
 pub enum Placed {
     At { base: u32, depth: u32 },
     Refused(u32),

@@ -12,7 +12,7 @@ const ENTRY: usize = 12;
 const CONSTANT_CLASS: u8 = 7;
 
 // Where a handler begins, or that there is none.
-#[derive(Drop)]
+#[derive(Clone, Copy)]
 pub enum Handler {
     At(u16),
     Nothing,

@@ -12,7 +12,7 @@ use return_types::settle;
 use rules::{Decision, Pressed, State, Update};
 
 // The state after a press, and its answer.
-#[derive(Drop)]
+#[derive(Clone, Copy)]
 pub struct PressResult {
     pub state: State,
     pub answer: Pressed,

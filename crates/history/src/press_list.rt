@@ -14,7 +14,7 @@ use frame::write_words;
 use rules::{Pressed, State};
 
 // The state after a list of presses, and a number: 0 where all were made.
-#[derive(Drop)]
+#[derive(Clone, Copy)]
 pub struct Replay {
     pub state: State,
     pub number: u32,

@@ -62,7 +62,7 @@ pub(crate) fn write_entry(slots: &[u32], log: &mut [u32], s: State, u: Update)
 }
 
 // An entry but for its old words.
-#[derive(Drop)]
+#[derive(Clone, Copy)]
 struct Entry {
     pub pc: u32,
     pub depth: u32,

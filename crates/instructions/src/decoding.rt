@@ -12,7 +12,7 @@ use operands::{
 };
 
 // An instruction, or the number of the question that refuses it.
-#[derive(Drop)]
+#[derive(Clone, Copy)]
 pub enum Decoded {
     Instruction {
         entry: u64,
@@ -24,7 +24,7 @@ pub enum Decoded {
 }
 
 // What the operand bytes say: an index, and a constant as a word.
-#[derive(Drop)]
+#[derive(Clone, Copy)]
 pub(crate) struct Fields {
     pub index: u32,
     pub constant: u32,

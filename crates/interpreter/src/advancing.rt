@@ -14,7 +14,7 @@ use rules::{Checked, Decision, State};
 
 // The state that ordinary steps led to, how many they were, and what the next step comes to; nothing of that is written. A return has not been asked question 32 yet:
 // `settle` asks it where a step, a press or a run ends with one, and no turn of the loop has to.
-#[derive(Drop)]
+#[derive(Clone, Copy)]
 pub struct Reached {
     pub state: State,
     pub steps: u64,

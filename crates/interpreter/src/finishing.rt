@@ -13,7 +13,7 @@ use rules::{Decision, Update};
 
 // An instruction that questions 4 to 8 have passed: its shared opcode, index and constant, the offset after it, its first place on
 // the stack, the new depth, and where its words go and how many.
-#[derive(Drop)]
+#[derive(Clone, Copy)]
 pub(crate) struct Located {
     pub op: u8,
     pub index: u32,

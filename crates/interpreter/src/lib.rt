@@ -1,4 +1,5 @@
 // The interpreter loop (interpreter.rs): one step decided, one step taken, and a run of steps.
+#![tactic(auto)]
 mod advancing;
 mod catching;
 mod deciding;

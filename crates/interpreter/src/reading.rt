@@ -6,7 +6,7 @@ use const_pool::{Constant, ldc, ldc2_w};
 use instructions::opcodes::*;
 
 // Up to four words, lowest first; those past the number that an instruction works on are any.
-#[derive(Drop)]
+#[derive(Clone, Copy)]
 pub(crate) struct Four {
     pub a: u32,
     pub b: u32,
@@ -15,7 +15,7 @@ pub(crate) struct Four {
 }
 
 // The words, or the number of the question that refuses the constant.
-#[derive(Drop)]
+#[derive(Clone, Copy)]
 pub(crate) enum Read {
     Words(Four),
     Refused(u32),

@@ -13,7 +13,7 @@ use return_types::settle;
 use rules::{Checked, Decision, End, State};
 
 // The state that a run reached, how many ordinary steps it took, and what ended it.
-#[derive(Drop)]
+#[derive(Clone, Copy)]
 pub struct Ran {
     pub state: State,
     pub steps: u64,

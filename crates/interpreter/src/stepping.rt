@@ -11,7 +11,7 @@ use return_types::settle;
 use rules::{Checked, Decision, State};
 
 // The state after a step, and what the step came to.
-#[derive(Drop)]
+#[derive(Clone, Copy)]
 pub struct Stepped {
     pub state: State,
     pub decision: Decision,

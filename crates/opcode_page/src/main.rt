@@ -1,4 +1,5 @@
 // Prints the page of opcodes (RULES, 'The page of opcodes'): a line for each of the 256.
+#![tactic(auto)]
 use instructions::opcode_line;
 use libc::STDOUT_FILENO;
 use printing::{print, print_number};

@@ -6,7 +6,7 @@ ghost use Rattle.rules.specs.Step.{inside};
 ghost use Rattle.operands.specs.Target.{target_of};
 
 // A place in the code, or the number of the question that refuses it: it is before the code's start or past its end.
-#[derive(Drop)]
+#[derive(Clone, Copy)]
 pub enum Target {
     At(usize),
     Refused(u32),

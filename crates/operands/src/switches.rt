@@ -11,7 +11,7 @@ use crate::bytes::read_code_u32;
 use integers::{icmpeq, icmple, icmplt};
 
 // A switch with its length in bytes and its default offset, or the number of its refusal.
-#[derive(Drop)]
+#[derive(Clone, Copy)]
 pub enum Switch {
     Accepted { size: usize, default: u32 },
     Refused(u32),

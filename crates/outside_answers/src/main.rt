@@ -1,5 +1,6 @@
 // Runs methods whose answers come from outside, and prints how each ends: those that a Java virtual machine gave, those that the Rust gave, and those
 // that docs/DIFFERENCES.md says are owed. tools/original/answers writes the methods and what must be printed.
+#![tactic(auto)]
 mod ends;
 
 use crate::ends::print_line;

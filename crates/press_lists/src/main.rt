@@ -1,5 +1,6 @@
 // Makes lists of presses on sheets from standard input, and prints what each press answers, what the list leaves, and whether a run ends there too.
 // judge/src/lists/presses writes the samples and what must be printed, and says how both are laid out.
+#![tactic(auto)]
 mod beside;
 mod lending;
 mod results;

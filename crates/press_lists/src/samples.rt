@@ -2,7 +2,7 @@
 ghost use Rattle.std.specs.Prelude.{◌≤◌};
 
 // How much is lent of each part, and the offset, the depth and the count that a list begins with.
-#[derive(Drop)]
+#[derive(Clone, Copy)]
 pub(crate) struct Head {
     pub slots: usize,
     pub pool: usize,

@@ -2,7 +2,7 @@
 use printing::{print, print_number};
 
 // How many lists and presses were made, and what the presses came to.
-#[derive(Drop)]
+#[derive(Clone, Copy)]
 pub(crate) struct Tally {
     pub lists: u64,
     pub presses: u64,

@@ -1,4 +1,5 @@
 // Text on standard output, piece by piece, for the programs.
+#![tactic(auto)]
 mod lines;
 mod sums;
 mod walks;

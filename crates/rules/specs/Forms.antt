@@ -38,13 +38,13 @@ pub record Rule : Type 0 where
 abbrev pub on_stack : List Kind → List Kind → (Operand → List ℕ → Result) → Rule
 on_stack ks ms f = record { takes = ks; gives = ms; locals = []; constants = []; reads = stack; does = f }
 
-infix 2 ◌⟶◌on-bits◌ ◌·◌⟶◌on-bits◌ ◌⟶◌is◌ ◌·◌⟶◌is◌ ◌÷◌is◌ ◌jumps-if◌ ◌·◌jumps-if◌ ◌⇒◌
+infix 2 ◌⟶◌on_bits◌ ◌·◌⟶◌on_bits◌ ◌⟶◌is◌ ◌·◌⟶◌is◌ ◌÷◌is◌ ◌jumps_if◌ ◌·◌jumps_if◌ ◌⇒◌
 -- ---- a result, of the bits of the values popped or of what they mean. Of two, the deeper comes first: JVMS's value1
 
-abbrev pub ◌⟶◌on-bits◌ : Kind → Kind → (ℕ → ℕ) → Rule
+abbrev pub ◌⟶◌on_bits◌ : Kind → Kind → (ℕ → ℕ) → Rule
 k ⟶ m on_bits f = on_stack (k ∷ []) (m ∷ []) λ o ws. pushes (words_of m (f (value_at k ws)))
 
-abbrev pub ◌·◌⟶◌on-bits◌ : Kind → Kind → Kind → (ℕ → ℕ → ℕ) → Rule
+abbrev pub ◌·◌⟶◌on_bits◌ : Kind → Kind → Kind → (ℕ → ℕ → ℕ) → Rule
 j · k ⟶ m on_bits f = on_stack (j ∷ k ∷ []) (m ∷ []) λ o ws. pushes (words_of m (f (value_at j ws) (value_at k (drop (places j) ws))))
 
 abbrev pub ◌⟶◌is◌ : (k m : Kind) → (Meaning k → Meaning m) → Rule
@@ -104,10 +104,10 @@ before ⇒ after = on_stack (map (λ v. any) before) (map (λ v. any) after) λ 
 
 -- ---- control
 
-abbrev pub ◌jumps-if◌ : (k : Kind) → (Meaning k → Bool) → Rule
+abbrev pub ◌jumps_if◌ : (k : Kind) → (Meaning k → Bool) → Rule
 k jumps_if t = on_stack (k ∷ []) [] λ o ws. branches (t (meaning k (value_at k ws))) o.constant
 
-abbrev pub ◌·◌jumps-if◌ : (j k : Kind) → (Meaning j → Meaning k → Bool) → Rule
+abbrev pub ◌·◌jumps_if◌ : (j k : Kind) → (Meaning j → Meaning k → Bool) → Rule
 j · k jumps_if t = on_stack (j ∷ k ∷ []) [] λ o ws. branches (t (meaning j (value_at j ws)) (meaning k (value_at k (drop (places j) ws)))) o.constant
 
 abbrev pub jumps : Rule

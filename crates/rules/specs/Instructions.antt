@@ -12,7 +12,7 @@ use Rattle.values.specs.declared.Value.TheVariants as Value
 use Rattle.values.specs.Kinds.{int, long, float, double, reference}
 use Rattle.values.specs.Integers.{low, to_byte, to_char, to_short, ◌=ᶻ◌, ◌<ᶻ◌, ◌≤ᶻ◌, −1, order, bitwise, and, or, xor, flipped}
 use Rattle.values.specs.Floats.{order_or, nearest}
-use Rattle.rules.specs.Forms.{Row, op, v1, v2, v3, v4, ◌⟶◌on-bits◌, ◌·◌⟶◌on-bits◌, ◌⟶◌is◌, ◌·◌⟶◌is◌, ◌÷◌is◌, ◌⇒◌, ◌jumps-if◌, ◌·◌jumps-if◌}
+use Rattle.rules.specs.Forms.{Row, op, v1, v2, v3, v4, ◌⟶◌on_bits◌, ◌·◌⟶◌on_bits◌, ◌⟶◌is◌, ◌·◌⟶◌is◌, ◌÷◌is◌, ◌⇒◌, ◌jumps_if◌, ◌·◌jumps_if◌}
 use Rattle.rules.specs.Forms.{constant, immediate, pool_constant, load, store, increment, jumps, switches, gives_back, gives_back_nothing, does_nothing}
 use Rattle.rules.specs.Forms.{alone, implied, byte, short, index, index2, index_const, branch, branch4, table, pairs, widened}
 

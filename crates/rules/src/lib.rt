@@ -1,9 +1,10 @@
 // The types that the rules speak of; the rules themselves are in specs/.
+#![tactic(auto)]
 use values::Value;
 
 // A line of the page of opcodes: an opcode, its length in bytes, and the places that it pops and pushes. Length 0 marks a switch, 254 WIDE and 255 an opcode outside
 // the core.
-#[derive(Drop)]
+#[derive(Clone, Copy)]
 pub struct OpcodeLine {
     pub opcode: u8,
     pub length: u32,
@@ -13,7 +14,7 @@ pub struct OpcodeLine {
 
 // Where a method stands: its two sizes, the program counter, the operand stack's depth, how many steps can be taken back, and the method's return type, a character
 // of its descriptor; a number that is no return type's counts as 0. In this order of its fields a state has 24 bytes, and none that pads it.
-#[derive(Drop)]
+#[derive(Clone, Copy)]
 pub struct State {
     pub max_stack: u16,
     pub max_locals: u16,
@@ -25,7 +26,7 @@ pub struct State {
 
 // What an ordinary step changes: the next program counter and depth, and the first `many` of six words, written from place `first` on.
 // Places count from the first local; words past `many` are 0.
-#[derive(Drop)]
+#[derive(Clone, Copy)]
 pub struct Update {
     pub pc: u32,
     pub depth: u32,
@@ -40,14 +41,14 @@ pub struct Update {
 }
 
 // What a row of questions answers: yes to all of them, or the number of the first no.
-#[derive(Drop)]
+#[derive(Clone, Copy)]
 pub enum Checked {
     Passed,
     Refused(u32),
 }
 
 // What one step comes to, before anything is written: an ordinary step, an outcome (a return or an ArithmeticException) or a refusal.
-#[derive(Drop)]
+#[derive(Clone, Copy)]
 pub enum Decision {
     Ordinary(Update),
     Return(Value),
@@ -56,7 +57,7 @@ pub enum Decision {
 }
 
 // What a press of forward or back comes to: granted, an outcome or a refusal.
-#[derive(Drop)]
+#[derive(Clone, Copy)]
 pub enum Pressed {
     Granted,
     Return(Value),
@@ -65,7 +66,7 @@ pub enum Pressed {
 }
 
 // What ends a run: its budget, an outcome or a refusal.
-#[derive(Drop)]
+#[derive(Clone, Copy)]
 pub enum End {
     Stopped,
     Return(Value),
@@ -74,7 +75,7 @@ pub enum End {
 }
 
 // The marks of a sheet's records.
-#[derive(Drop)]
+#[derive(Clone, Copy)]
 pub enum Mark {
     LM,
     DS,
@@ -87,7 +88,7 @@ pub enum Mark {
 // What has been read of a sheet: the number of the last record's mark, the method's sizes, its parameters' places and its return type, both 0 without a descriptor,
 // where its code begins in the sheet and how long it is, the highest pool index used, where the handlers begin, which end at the AR record, and where the argument
 // words begin and how many there are.
-#[derive(Drop)]
+#[derive(Clone, Copy)]
 pub struct Reading {
     pub last: u32,
     pub max_stack: u16,
@@ -103,7 +104,7 @@ pub struct Reading {
 }
 
 // What a load answers.
-#[derive(Drop)]
+#[derive(Clone, Copy)]
 pub enum Load {
     Accepted,
     Refused(u32),
@@ -111,7 +112,7 @@ pub enum Load {
 
 // What a load gives in every case: its answer, the state, and where the code and the handlers lie in the sheet. A refused one gives a state of zeros and twice the
 // empty part at the sheet's start.
-#[derive(Drop)]
+#[derive(Clone, Copy)]
 pub struct Loaded {
     pub answer: Load,
     pub state: State,
@@ -122,7 +123,7 @@ pub struct Loaded {
 }
 
 // What an answer says over the C boundary: a number, and the value that goes with it as two words, 0 where there is none.
-#[derive(Drop)]
+#[derive(Clone, Copy)]
 pub struct Answer {
     pub number: u32,
     pub low: u32,

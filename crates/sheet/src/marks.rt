@@ -50,7 +50,7 @@ const CONSTANT_DOUBLE: u8 = 6;
 pub(crate) const CONSTANT_CLASS: u8 = 7;
 
 // A mark, or the number of the refusal of one that is not known.
-#[derive(Drop)]
+#[derive(Clone, Copy)]
 pub(crate) enum Known {
     Mark(Mark),
     Refused(u32),

@@ -10,7 +10,7 @@ use operands::read_code_u16;
 use rules::{Mark, Reading};
 
 // What has been read with a record, or the number of its refusal.
-#[derive(Drop)]
+#[derive(Clone, Copy)]
 pub enum Record {
     Read(Reading),
     Refused(u32),

@@ -1,5 +1,6 @@
 // Loads sample sheets from standard input into lent memory that holds junk, and prints what each load answers and checksums of what it left.
 // judge/src/lists/sheets writes the samples and the answers, and says how both are laid out.
+#![tactic(auto)]
 mod memory;
 mod results;
 mod samples;

@@ -2,7 +2,7 @@
 ghost use Rattle.std.specs.Prelude.{◌≤◌};
 
 // How many slots, kinds and words are lent, and how many bytes the sheet has.
-#[derive(Drop)]
+#[derive(Clone, Copy)]
 pub(crate) struct Head {
     pub slots: usize,
     pub kinds: usize,

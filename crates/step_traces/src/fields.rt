@@ -7,7 +7,7 @@ use rules::State;
 pub(crate) type Line = [u8; 496];
 
 // A sample: the parts that are lent, each with its length, and the state to start from.
-#[derive(Drop)]
+#[derive(Clone, Copy)]
 pub(crate) struct Sample {
     pub code: [u8; 64],
     pub code_length: usize,

@@ -1,5 +1,6 @@
 // Walks sample methods from standard input step by step, runs them, and prints what each step and each run comes to.
 // judge/src/lists/methods.rs writes the samples and says how a line is laid out; judge/src/lists/traces.rs writes what must be printed.
+#![tactic(auto)]
 mod fields;
 mod results;
 mod walking;
@@ -12,7 +13,7 @@ use printing::{print, print_word};
 const MOST: u64 = 1_000_000;
 
 // A line, and how many bytes of it there were.
-#[derive(Drop)]
+#[derive(Clone, Copy)]
 struct Input {
     line: Line,
     count: usize,

@@ -1,4 +1,5 @@
 // Prints the walk of a sheet that stands on standard input (RULES, 'The printed walk').
+#![tactic(auto)]
 use interpreter::{decide, step};
 use printing::{print, print_decision, print_header, print_number, print_step};
 use rules::{Decision, Load, State};
