@@ -1,0 +1,18 @@
+-- `i2f` meets its contract: the sign bit, and the float nearest to the magnitude. Assumes nothing.
+use Prim.Native.Nat.{◌+◌, ◌-◌}
+use native.Mathlib.Omega.{arith}
+use lib.Ieee.{binary32}
+use Rattle.conversions.proofs.SignBit.{round_sign_lt}
+use Rattle.conversions.proofs.Integers.{not_negative, negative}
+use borrow.Author.Rules.{rules}
+use Rattle.conversions.proofs.int_to_float.i2f.Goals as goal
+
+pub overflow_add-result : goal.overflow_add-result
+overflow_add-result c = record { fits = round_sign_lt binary32 (4294967295 - c.args.a + 1) 1 c.float_nearest-else-a-lt2147483648.ensures }
+
+pub returns-then-a-lt2147483648 : goal.returns-then-a-lt2147483648
+returns-then-a-lt2147483648 c = not_negative binary32 31 c.args.a c.if-a-lt2147483648.true c.float_nearest.ensures
+
+pub returns-else-a-lt2147483648 : goal.returns-else-a-lt2147483648
+returns-else-a-lt2147483648 c = let a = c.args.a in
+    negative binary32 31 a (4294967295 - a + 1) c.if-a-lt2147483648.false (omega arith) c.float_nearest-else-a-lt2147483648.ensures

@@ -1,0 +1,6 @@
+-- `ddiv` meets its contract: what the converters and the operation between them give. Assumes nothing.
+use borrow.Author.Rules.{rules}
+use Rattle.floats.proofs.double.ddiv.Goals as goal
+
+pub returns : goal.returns
+returns c = cc

@@ -1,0 +1,8 @@
+-- `fcmpg` meets its contract: the three tests at what the words mean. Assumes nothing.
+use Rattle.values.specs.Integers.{signed}
+use borrow.Author.Rules.{rules}
+use Rattle.floats.proofs.single.fcmpg.Goals as goal
+
+pub returns : goal.returns
+unfolding signed
+returns c = cc

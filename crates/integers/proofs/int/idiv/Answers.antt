@@ -1,0 +1,23 @@
+-- `idiv` meets its contract. Assumes nothing.
+use Rattle.std.proofs.Common.{◌∙◌, arith, rules}
+use Rattle.integers.proofs.Division.{quot_plus_plus, quot_minus_minus, quot_plus_minus, quot_minus_plus, divisor}
+use Rattle.integers.proofs.int.idiv.Goals as goal
+
+pub nonzero_div-q : goal.nonzero_div-q
+nonzero_div-q c = divisor 31 c.args.b c.magnitude-2.result c.magnitude-2.ensures c.requires
+
+pub returns-then-b-lt2147483648 : goal.returns-then-b-lt2147483648
+returns-then-b-lt2147483648 c = let z = c.before.before in
+    quot_plus_plus 31 z.args.a z.args.b z.magnitude.result z.magnitude-2.result (omega (arith, z.magnitude.type_inv)) z.magnitude.ensures z.magnitude-2.ensures c.if-a-lt2147483648.true c.if-b-lt2147483648.true
+
+pub returns-else-b-lt2147483648 : goal.returns-else-b-lt2147483648
+returns-else-b-lt2147483648 c = let z = c.before.before.before in
+    c.minus.ensures ∙ quot_plus_minus 31 z.args.a z.args.b z.magnitude.result z.magnitude-2.result (omega (arith, z.magnitude.type_inv)) z.magnitude.ensures z.magnitude-2.ensures c.if-a-lt2147483648.true c.if-b-lt2147483648.false
+
+pub returns-then-b-lt2147483648-2 : goal.returns-then-b-lt2147483648-2
+returns-then-b-lt2147483648-2 c = let z = c.before.before.before in
+    c.minus-then-b-lt2147483648-2.ensures ∙ quot_minus_plus 31 z.args.a z.args.b z.magnitude.result z.magnitude-2.result (omega (arith, z.magnitude.type_inv)) z.magnitude.ensures z.magnitude-2.ensures c.if-a-lt2147483648.false c.if-b-lt2147483648-2.true
+
+pub returns-else-b-lt2147483648-2 : goal.returns-else-b-lt2147483648-2
+returns-else-b-lt2147483648-2 c = let z = c.before.before in
+    quot_minus_minus 31 z.args.a z.args.b z.magnitude.result z.magnitude-2.result (omega (arith, z.magnitude.type_inv)) z.magnitude.ensures z.magnitude-2.ensures c.if-a-lt2147483648.false c.if-b-lt2147483648-2.false
