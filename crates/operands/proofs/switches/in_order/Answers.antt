@@ -1,0 +1,6 @@
+-- `in_order` meets its contract. Assumes nothing.
+use Rattle.std.proofs.Common.{rules}
+use Rattle.operands.proofs.switches.in_order.Goals as goal
+
+pub returns : goal.returns
+returns c = c.icmplt.ensures
