@@ -20,20 +20,10 @@ overflow_mul-i c = omega arith
 pub overflow_add-at : goal.overflow_add-at
 overflow_add-at c = omega arith
 
--- the test is that of the key at i
-tested : (c : goal.After-in_order) →
-    c.in_order.result
-    ≡ (signed 31 c.loop-i.last
-    <ᶻ key_at c.args.code.now c.args.at c.args.n c.loop-i.i)
-tested c =
-    let turn = c.before.before.before in
-    let a = turn.args in
-    c.in_order.ensures ∙ ap (λ (x : ℤ). signed 31 turn.loop-i.last <ᶻ x) (word_means a.code.now (a.at + 8 * turn.loop-i.i) c.read_code_u32-key.result c.read_code_u32-key.ensures)
-
 pub returns-then-not-in_order : goal.returns-then-not-in_order
 returns-then-not-in_order c = let turn = c.before.before.before.before in
     let a = turn.args in
-    sym (turn.loop-i.invariant.1 ∙ rising_no a.code.now a.at a.n (signed 31 turn.loop-i.last) turn.loop-i.i (omega arith) (sym (tested c.before) ∙ not-true c.in_order.result c.if-not-in_order.true-raw))
+    sym (turn.loop-i.invariant.1 ∙ rising_no a.code.now a.at a.n (signed 31 turn.loop-i.last) turn.loop-i.i (omega arith) (sym (let turn = c in let a = turn.args in c.in_order.ensures ∙ ap (λ (x : ℤ). signed 31 turn.loop-i.last <ᶻ x) (word_means a.code.now (a.at + 8 * turn.loop-i.i) c.read_code_u32-key.result c.read_code_u32-key.ensures)) ∙ not-true c.in_order.result c.if-not-in_order.true-raw))
 
 pub overflow_add-i : goal.overflow_add-i
 overflow_add-i c = omega arith
@@ -46,7 +36,7 @@ loop-i-preserved c = let turn = c.before.before.before.before in
     let a = turn.args in (
       omega arith,
       turn.loop-i.invariant.1
-          ∙ rising_next a.code.now a.at a.n (signed 31 turn.loop-i.last) turn.loop-i.i (omega arith) (sym (tested c.before) ∙ not-false c.in_order.result c.if-not-in_order.false-raw)
+          ∙ rising_next a.code.now a.at a.n (signed 31 turn.loop-i.last) turn.loop-i.i (omega arith) (sym (let turn = c in let a = turn.args in c.in_order.ensures ∙ ap (λ (x : ℤ). signed 31 turn.loop-i.last <ᶻ x) (word_means a.code.now (a.at + 8 * turn.loop-i.i) c.read_code_u32-key.result c.read_code_u32-key.ensures)) ∙ not-false c.in_order.result c.if-not-in_order.false-raw)
           ∙ ap (λ (x : ℤ). rising_from x (rest a.code.now a.at a.n (turn.loop-i.i + 1))) (sym (word_means a.code.now (a.at + 8 * turn.loop-i.i) c.read_code_u32-key.result c.read_code_u32-key.ensures)),
     )
 

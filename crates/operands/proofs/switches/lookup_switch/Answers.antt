@@ -20,26 +20,17 @@ returns-then-count-ge2147483648 c = let read = c.before in
     let a = place.args in
     λ row. sym (ap switch_of (lookup_negative a.code.now a.pc row (omega arith) (negative a.code.now a.pc place.after_padding-at.result read.read_code_u32-count.result place.after_padding-at.ensures read.read_code_u32-count.ensures c.if-count-ge2147483648.true)))
 
--- the count of pairs is the word that was read
-counting : (c : goal.Else-count-ge2147483648) →
-    Counted c.args.code.now c.args.pc c.after_padding-at.result c.read_code_u32-count.result
-counting c =
-    let read = c.before in
-    let place = read.before.before in
-    let a = place.args in
-    not_negative a.code.now a.pc place.after_padding-at.result read.read_code_u32-count.result place.after_padding-at.ensures read.read_code_u32-count.ensures c.if-count-ge2147483648.false
-
 pub returns-then-code-end : goal.returns-then-code-end
 unfolding switch_of
 returns-then-code-end c = let a = c.args in
-    let n = counting c.before in
+    let n : Counted c.args.code.now c.args.pc c.after_padding-at.result c.read_code_u32-count.result = let read = c in let place = read in let a = place.args in not_negative a.code.now a.pc place.after_padding-at.result read.read_code_u32-count.result place.after_padding-at.ensures read.read_code_u32-count.ensures c.if-count-ge2147483648.false in
     λ row. sym (ap switch_of (lookup_missing a.code.now a.pc row (omega arith) n.counted (omega arith)))
 
 pub returns-then-not-keys_rise : goal.returns-then-not-keys_rise
 unfolding switch_of
 returns-then-not-keys_rise c = let rise = c.before in
     let a = rise.args in
-    let n = counting rise.before.before in
+    let n : Counted rise.args.code.now rise.args.pc rise.after_padding-at.result rise.read_code_u32-count.result = let read = rise in let place = read in let a = place.args in not_negative a.code.now a.pc place.after_padding-at.result read.read_code_u32-count.result place.after_padding-at.ensures read.read_code_u32-count.ensures rise.if-count-ge2147483648.false in
     let unsorted = sym (rise.keys_rise.ensures ∙ ap rising n.pairs) ∙ not-true rise.keys_rise.result c.if-not-keys_rise.true-raw in
     λ row. sym (ap switch_of (lookup_unsorted a.code.now a.pc row (omega arith) n.counted (omega arith) unsorted))
 
@@ -48,7 +39,7 @@ unfolding switch_of
 returns c = let rise = c.before.before in
     let place = rise.before.before.before.before.before in
     let a = place.args in
-    let n = counting rise.before.before in
+    let n : Counted rise.args.code.now rise.args.pc rise.after_padding-at.result rise.read_code_u32-count.result = let read = rise in let place = read in let a = place.args in not_negative a.code.now a.pc place.after_padding-at.result read.read_code_u32-count.result place.after_padding-at.ensures read.read_code_u32-count.ensures rise.if-count-ge2147483648.false in
     let sorted = sym (rise.keys_rise.ensures ∙ ap rising n.pairs) ∙ not-false rise.keys_rise.result c.if-not-keys_rise.false-raw in
     let default = word_of a.code.now _ c.read_code_u32.result (c.read_code_u32.ensures ∙ ap (u32 a.code.now) place.after_padding-at.ensures) (omega (arith, c.read_code_u32.type_inv)) in
     λ row. ap₂ Accepted (omega arith) default ∙ sym (ap switch_of (lookup_there a.code.now a.pc row (omega arith) n.counted (omega arith) sorted))

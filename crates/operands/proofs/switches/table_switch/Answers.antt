@@ -14,41 +14,18 @@ pub returns-then-code-at : goal.returns-then-code-at
 unfolding switch_of
 returns-then-code-at c = λ row. sym (ap switch_of (table_cut c.args.code.now c.args.pc row (omega arith)))
 
--- the test of the keys is that of the words that were read
-ordering : (c : goal.After-icmple) →
-    c.icmple.result
-    ≡ (low_key c.args.code.now c.args.pc
-    ≤ᶻ high_key c.args.code.now c.args.pc)
-ordering c =
-    let low = c.before.before in
-    let place = low.before.before in
-    let a = place.args in
-    key_order a.code.now a.pc place.after_padding-at.result low.read_code_u32-low.result c.read_code_u32-high.result place.after_padding-at.ensures low.read_code_u32-low.ensures c.read_code_u32-high.ensures c.icmple.result c.icmple.ensures
-
 pub returns-then-not-icmple : goal.returns-then-not-icmple
 unfolding switch_of
 returns-then-not-icmple c = let a = c.args in
-    let disorder = sym (ordering c.before) ∙ not-true c.icmple.result c.if-not-icmple.true-raw in
+    let disorder = sym (let low = c in let place = low in let a = place.args in key_order a.code.now a.pc place.after_padding-at.result low.read_code_u32-low.result c.read_code_u32-high.result place.after_padding-at.ensures low.read_code_u32-low.ensures c.read_code_u32-high.ensures c.icmple.result c.icmple.ensures) ∙ not-true c.icmple.result c.if-not-icmple.true-raw in
     λ row. sym (ap switch_of (table_disordered a.code.now a.pc row (omega arith) disorder))
-
--- how many keys there are, by the difference of the words
-counting : (c : goal.After-wrapping_sub_u32-span) →
-    keys c.args.code.now c.args.pc
-    ≡ c.wrapping_sub_u32-span.result + 1
-counting c =
-    let test = c.before.before in
-    let high = test.before in
-    let low = high.before in
-    let place = low.before.before in
-    let a = place.args in
-    key_count a.code.now a.pc place.after_padding-at.result low.read_code_u32-low.result high.read_code_u32-high.result place.after_padding-at.ensures low.read_code_u32-low.ensures high.read_code_u32-high.ensures c.wrapping_sub_u32-span.result (omega (arith, low.read_code_u32-low.type_inv)) (omega (arith, high.read_code_u32-high.type_inv)) (omega (arith, c.wrapping_sub_u32-span.type_inv)) c.wrapping_sub_u32-span.ensures.value (sym test.icmple.ensures ∙ not-false test.icmple.result c.if-not-icmple.false-raw)
 
 pub returns-then-code-end : goal.returns-then-code-end
 unfolding switch_of
 returns-then-code-end c = let test = c.before.before.before in
     let a = test.args in
-    let order = sym (ordering test) ∙ not-false test.icmple.result c.if-not-icmple.false-raw in
-    let count = counting c.before in
+    let order = sym (let low = test in let place = low in let a = place.args in key_order a.code.now a.pc place.after_padding-at.result low.read_code_u32-low.result test.read_code_u32-high.result place.after_padding-at.ensures low.read_code_u32-low.ensures test.read_code_u32-high.ensures test.icmple.result test.icmple.ensures) ∙ not-false test.icmple.result c.if-not-icmple.false-raw in
+    let count : keys c.args.code.now c.args.pc ≡ c.wrapping_sub_u32-span.result + 1 = let test = c in let high = test in let low = high in let place = low in let a = place.args in key_count a.code.now a.pc place.after_padding-at.result low.read_code_u32-low.result high.read_code_u32-high.result place.after_padding-at.ensures low.read_code_u32-low.ensures high.read_code_u32-high.ensures c.wrapping_sub_u32-span.result (omega (arith, low.read_code_u32-low.type_inv)) (omega (arith, high.read_code_u32-high.type_inv)) (omega (arith, c.wrapping_sub_u32-span.type_inv)) c.wrapping_sub_u32-span.ensures.value (sym test.icmple.ensures ∙ not-false test.icmple.result c.if-not-icmple.false-raw) in
     λ row. sym (ap switch_of (table_missing a.code.now a.pc row (omega arith) order (omega arith)))
 
 pub returns : goal.returns
@@ -56,7 +33,7 @@ unfolding switch_of
 returns c = let test = c.before.before.before.before in
     let place = test.before.before.before.before in
     let a = place.args in
-    let order = sym (ordering test) ∙ not-false test.icmple.result c.if-not-icmple.false-raw in
-    let count = counting c.before.before in
+    let order = sym (let low = test in let place = low in let a = place.args in key_order a.code.now a.pc place.after_padding-at.result low.read_code_u32-low.result test.read_code_u32-high.result place.after_padding-at.ensures low.read_code_u32-low.ensures test.read_code_u32-high.ensures test.icmple.result test.icmple.ensures) ∙ not-false test.icmple.result c.if-not-icmple.false-raw in
+    let count : keys c.args.code.now c.args.pc ≡ c.wrapping_sub_u32-span.result + 1 = let test = c in let high = test in let low = high in let place = low in let a = place.args in key_count a.code.now a.pc place.after_padding-at.result low.read_code_u32-low.result high.read_code_u32-high.result place.after_padding-at.ensures low.read_code_u32-low.ensures high.read_code_u32-high.ensures c.wrapping_sub_u32-span.result (omega (arith, low.read_code_u32-low.type_inv)) (omega (arith, high.read_code_u32-high.type_inv)) (omega (arith, c.wrapping_sub_u32-span.type_inv)) c.wrapping_sub_u32-span.ensures.value (sym test.icmple.ensures ∙ not-false test.icmple.result c.if-not-icmple.false-raw) in
     let default = word_of a.code.now _ c.read_code_u32.result (c.read_code_u32.ensures ∙ ap (u32 a.code.now) place.after_padding-at.ensures) (omega (arith, c.read_code_u32.type_inv)) in
     λ row. ap₂ Accepted (omega arith) default ∙ sym (ap switch_of (table_there a.code.now a.pc row (omega arith) order (omega arith)))
