@@ -1,0 +1,6 @@
+-- `character_at` meets its contract. Assumes nothing.
+use borrow.Author.Rules.{rules}
+use Rattle.descriptor.proofs.names.character_at.Goals as goal
+
+pub returns : goal.returns
+returns c = cc

@@ -1,0 +1,6 @@
+-- `is_one_byte` meets its contract. Assumes nothing.
+use borrow.Author.Rules.{rules}
+use Rattle.descriptor.proofs.names.is_one_byte.Goals as goal
+
+pub returns : goal.returns
+returns c = cc
