@@ -1,6 +1,6 @@
 -- `wide` meets its contract. Assumes nothing.
 use Prim.Native.Nat.{ℕ, ◌<◌}
-use mathlib.Core.Bool.{true}
+use mathlib.Core.Bool.{Bool, true}
 use mathlib.Core.Path.{◌≡◌, sym, ap, ◌∙◌}
 use mathlib.Core.List.{List}
 use native.Mathlib.Omega.{arith}
@@ -15,27 +15,18 @@ use borrow.Author.Rules.{rules}
 use Rattle.instructions.proofs.decoding.wide.Goals as goal
 
 -- what is known once the length is read
-module _ (c : goal.After-length_in) where
-  abbrev code : List ℕ
-  code = c.args.code.now
-
-  abbrev pc : ℕ
-  pc = c.args.pc
-
-  read : c.read_code_u8-opcode.result ≡ wide_opcode code pc
-  read = c.read_code_u8-opcode.ensures
-
-  allowed : widens (wide_opcode code pc) ≡ true
-  allowed = sym (ap widens read) ∙ sym c.is_widened.ensures ∙ not-false c.is_widened.result c.if-not-is_widened.false-raw
+module _ (code : List ℕ) (pc opcode : ℕ) (fits : opcode < 256) (read : opcode ≡ wide_opcode code pc) where
+  allowed : (widened : Bool) → widened ≡ widens opcode → widened ≡ true → widens (wide_opcode code pc) ≡ true
+  allowed widened e h = sym (ap widens read) ∙ sym e ∙ h
 
   below : wide_opcode code pc < 256
-  below = rw (← read) (omega (arith, c.read_code_u8-opcode.type_inv))
+  below = rw (← read) fits
 
-  row : c.entry-row.result ≡ entry_of (row_of (wide_opcode code pc))
-  row = c.entry-row.ensures ∙ ap (λ (n : ℕ). entry_of (row_of n)) read
+  row_there : (row : ℕ) → row ≡ entry_of (row_of opcode) → row ≡ entry_of (row_of (wide_opcode code pc))
+  row_there row e = e ∙ ap (λ (n : ℕ). entry_of (row_of n)) read
 
-  long : c.length_in.result ≡ length_in (entry_of (row_of (wide_opcode code pc)))
-  long = c.length_in.ensures ∙ ap length_in row
+  length_there : (row long : ℕ) → row ≡ entry_of (row_of opcode) → long ≡ length_in row → long ≡ length_in (entry_of (row_of (wide_opcode code pc)))
+  length_there row long e f = f ∙ ap length_in (row_there row e)
 
 pub returns-then-code-at : goal.returns-then-code-at
 unfolding decoded
@@ -48,9 +39,25 @@ returns-then-not-is_widened c = let a = c.args in
     sym (ap decoded (wide_not_allowed a.code.now a.pc c.if-code-at.false refused))
 
 pub returns-then-opcode : goal.returns-then-opcode
-returns-then-opcode c = let k = c.before.before.before in
-    cc (row k, long k, wide_increment (code k) (pc k) k.if-code-at.false (allowed k) (below k) (sym (read k) ∙ c.if-opcode.true))
+returns-then-opcode c =
+    let code = c.args.code.now in
+    let pc = c.args.pc in
+    let op = c.read_code_u8-opcode in
+    let fits : op.result < 256 = omega (arith, op.type_inv) in
+    cc (
+      row_there code pc op.result fits op.ensures c.entry-row.result c.entry-row.ensures,
+      length_there code pc op.result fits op.ensures c.entry-row.result c.length_in.result c.entry-row.ensures c.length_in.ensures,
+      wide_increment code pc c.if-code-at.false (allowed code pc op.result fits op.ensures c.is_widened.result c.is_widened.ensures c.if-not-is_widened.false) (below code pc op.result fits op.ensures) (sym op.ensures ∙ c.if-opcode.true),
+    )
 
 pub returns : goal.returns
-returns c = let k = c.before.before in
-    cc (row k, long k, wide_other (code k) (pc k) k.if-code-at.false (allowed k) (below k) (λ z. c.if-opcode.false (read k ∙ z)))
+returns c =
+    let code = c.args.code.now in
+    let pc = c.args.pc in
+    let op = c.read_code_u8-opcode in
+    let fits : op.result < 256 = omega (arith, op.type_inv) in
+    cc (
+      row_there code pc op.result fits op.ensures c.entry-row.result c.entry-row.ensures,
+      length_there code pc op.result fits op.ensures c.entry-row.result c.length_in.result c.entry-row.ensures c.length_in.ensures,
+      wide_other code pc c.if-code-at.false (allowed code pc op.result fits op.ensures c.is_widened.result c.is_widened.ensures c.if-not-is_widened.false) (below code pc op.result fits op.ensures) (λ z. c.if-opcode.false (op.ensures ∙ z)),
+    )
