@@ -1,0 +1,17 @@
+-- `commit` meets its contract. Assumes nothing.
+use Prim.Native.Nat.{ℕ, ◌+◌, ◌-◌}
+use mathlib.Core.Path.{◌≡◌, ap, ◌∙◌}
+use native.Mathlib.Omega.{arith}
+use lib.Seq.{paste}
+use Rattle.rules.specs.Step.{update_words}
+use Rattle.frame.proofs.Parts.{paste_part}
+use borrow.Author.Rules.{rules}
+use Rattle.frame.proofs.slots.commit.Goals as goal
+
+pub returns : goal.returns
+returns c = let a = c.args in
+    let l = a.s.max_locals in
+    let place : l + (a.u.first - l) ≡ a.u.first = omega arith in
+    rw c.push_words.ensures
+    (paste_part a.slots.now l (l + a.s.max_stack) (a.u.first - l) a.u.many (update_words a.u) (omega arith) (omega arith)
+    ∙ ap (λ (at : ℕ). paste a.slots.now at (update_words a.u) a.u.many) place)
