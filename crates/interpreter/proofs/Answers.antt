@@ -88,7 +88,7 @@ module _ (l : Method) (s : State) (slots : List ℕ) (framed : frame_check l s (
         let f = rules.framed l s (length slots) framed in
         let g = fetched_sound l.code s.pc d.i d.at in
         let e = d.sized in
-        omega (arith, g.in-code)
+        omega (arith, g.in_code)
 
     pub in_table : is_in shared_opcodes (shared_in entry) ≡ true
     in_table = rw d.entered (listed l s d.i (fetched_sound l.code s.pc d.i d.at))

@@ -1,0 +1,48 @@
+-- `advance_plain` meets its contract. The loop's invariant is `Going`; the measure is how many steps are left. Assumes nothing.
+use Prim.Native.Nat.{◌-◌}
+use mathlib.Core.Path.{refl, sym, ap, ◌∙◌}
+use mathlib.Core.List.{[]}
+use native.Mathlib.Omega.{arith}
+use Rattle.rules.specs.Questions.{method}
+use Rattle.rules.proofs.Legal.{ordinary_legal}
+use Rattle.return_types.specs.Settled.{settled}
+use Rattle.interpreter.proofs.Steps.{Going, turn, ends_there, all_taken}
+use borrow.Author.Rules.{rules}
+use Rattle.interpreter.proofs.advancing.advance_plain.Goals as goal
+
+pub loop-u-init : goal.loop-u-init
+loop-u-init c = let p = c.requires in record { upto = p.1; long = refl; framed = p.0; rest = refl }
+
+pub decide_framed-decision-requires : goal.decide_framed-decision-requires
+decide_framed-decision-requires c = c.loop-u.invariant.framed
+
+pub shape_of-slots-in_default : goal.shape_of-slots-in_default
+shape_of-slots-in_default c = c.loop-u.invariant.long
+
+pub returns-in_default : goal.returns-in_default
+returns-in_default c = let t = c.loop-u in
+    ends_there _ _ _ _ _ t.slots t.t t.steps t.invariant c.decide_framed-decision.result c.decide_framed-decision.ensures c.in_default.in_default-own.keys2
+
+pub shape_of-slots-then-steps-most : goal.shape_of-slots-then-steps-most
+shape_of-slots-then-steps-most c = c.loop-u.invariant.long
+
+pub returns-then-steps-most : goal.returns-then-steps-most
+returns-then-steps-most c = let t = c.loop-u in
+    all_taken _ _ _ _ _ t.slots t.t t.steps t.invariant c.if-steps-most.true _ (sym c.decide_framed-decision.ensures ∙ ap (settled _) c.in-Ordinary.is)
+
+pub commit-requires : goal.commit-requires
+commit-requires c = let t = c.loop-u in
+    let k = ordinary_legal _ t.t t.slots _ (sym c.decide_framed-decision.ensures ∙ ap (settled _) c.in-Ordinary.is) in
+    (k.few, k.within, k.frame_there.room)
+
+pub overflow_add-steps : goal.overflow_add-steps
+overflow_add-steps c = let t = c.loop-u in
+    omega (arith, t.invariant.upto, c.if-steps-most.false, c.ranges.most)
+
+pub loop-u-smaller : goal.loop-u-smaller
+loop-u-smaller c = omega (arith, c.loop-u.invariant.upto, c.if-steps-most.false)
+
+pub loop-u-preserved : goal.loop-u-preserved
+loop-u-preserved c = let t = c.loop-u in
+    rw (c.moved-t.ensures, c.commit.ensures)
+    (turn _ _ _ _ _ t.slots t.t t.steps t.invariant c.if-steps-most.false _ (sym c.decide_framed-decision.ensures ∙ ap (settled _) c.in-Ordinary.is))

@@ -1,0 +1,9 @@
+-- `from_pool` meets its contract. Assumes nothing.
+use borrow.Author.Rules.{rules}
+use Rattle.interpreter.proofs.reading.from_pool.Goals as goal
+
+pub returns-in-Found : goal.returns-in-Found
+returns-in-Found c = simp c.in-Found.is
+
+pub returns-in-Refused : goal.returns-in-Refused
+returns-in-Refused c = simp c.in-Refused.is

@@ -1,0 +1,6 @@
+-- `ended` meets its contract. Assumes nothing.
+use borrow.Author.Rules.{rules}
+use Rattle.interpreter.proofs.running.ended.Goals as goal
+
+pub returns : goal.returns
+returns c = simp (← c.moved-state.ensures)

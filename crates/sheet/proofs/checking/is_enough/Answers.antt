@@ -1,0 +1,24 @@
+-- `is_enough` meets its contract. Assumes nothing.
+use mathlib.Core.Path.{sym, ◌∙◌}
+use borrow.Author.Tests.{le-leb, lt-leb, eq-eqb, ne_eqb, not-true, not-false}
+use Rattle.rules.specs.Check.{◌else◌, ◌>>◌}
+use Rattle.rules.specs.Sheet.{memory_check}
+use Rattle.rules.proofs.Check.{last_asked}
+use borrow.Author.Rules.{rules}
+use Rattle.sheet.proofs.checking.is_enough.Goals as goal
+
+pub returns-then-slots-p : goal.returns-then-slots-p
+unfolding memory_check ◌else◌ ◌>>◌
+returns-then-slots-p c = simp (lt-leb _ _ c.if-slots-p.true)
+
+pub returns-then-not-reaches : goal.returns-then-not-reaches
+unfolding memory_check ◌else◌ ◌>>◌
+returns-then-not-reaches c = simp (le-leb _ _ c.if-slots-p.false, sym c.reaches.ensures ∙ not-true _ c.if-not-reaches.true-raw)
+
+pub returns-then-kinds-words : goal.returns-then-kinds-words
+unfolding memory_check ◌else◌ ◌>>◌
+returns-then-kinds-words c = simp (le-leb _ _ c.if-slots-p.false, sym c.reaches.ensures ∙ not-false _ c.if-not-reaches.false-raw, ne_eqb _ _ c.if-kinds-words.true)
+
+pub returns : goal.returns
+unfolding memory_check ◌else◌ ◌>>◌
+returns c = simp (le-leb _ _ c.if-slots-p.false, sym c.reaches.ensures ∙ not-false _ c.if-not-reaches.false-raw, eq-eqb _ _ c.if-kinds-words.false) (last_asked _ 26)

@@ -1,0 +1,9 @@
+-- `read_sizes` meets its contract. Assumes nothing.
+use Rattle.rules.specs.Check.{◌>>◌}
+use Rattle.rules.specs.Sheet.{contents_check, with_record}
+use borrow.Author.Rules.{rules}
+use Rattle.sheet.proofs.contents.read_sizes.Goals as goal
+
+pub returns : goal.returns
+unfolding contents_check with_record ◌>>◌
+returns c = simp (c.read_code_u16.ensures, c.read_code_u16-2.ensures)

@@ -1,0 +1,6 @@
+-- `refused_load` meets its contract. Assumes nothing.
+use borrow.Author.Rules.{rules}
+use Rattle.sheet.proofs.loading.refused_load.Goals as goal
+
+pub returns : goal.returns
+returns c = rw c.loaded_state.ensures
