@@ -5,7 +5,7 @@ use Rattle.interpreter.proofs.finishing.locate.Goals as goal
 
 pub returns-then-is_store : goal.returns-then-is_store
 unfolding located_of
-returns-then-is_store c = simp (← c.shared_in-op.ensures, ← c.is_store.ensures, c.if-is_store.true, ← c.locals_in_lem.ensures)
+returns-then-is_store c = simp (← c.shared_in-op.ensures, ← c.is_store.ensures, c.if-is_store.true, ← c.locals_in.ensures)
 
 pub returns : goal.returns
 unfolding located_of

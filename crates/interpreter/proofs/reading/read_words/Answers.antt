@@ -6,7 +6,7 @@ use Rattle.interpreter.proofs.reading.read_words.Goals as goal
 
 pub returns-then-op-eq-LDC : goal.returns-then-op-eq-LDC
 unfolding read_of
-returns-then-op-eq-LDC c = simp (eq-eqb _ _ c.if-op-eq-LDC.true, ← c.ldc.ensures, ← c.pool_constant.ensures)
+returns-then-op-eq-LDC c = simp (eq-eqb _ _ c.if-op-eq-LDC.true, ← c.ldc.ensures, ← c.from_pool.ensures)
 
 pub returns-then-op-eq-LDC2_W : goal.returns-then-op-eq-LDC2_W
 unfolding read_of

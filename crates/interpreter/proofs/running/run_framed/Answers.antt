@@ -17,7 +17,7 @@ pub returns-in_default : goal.returns-in_default
 returns-in_default c = let a = c.args in
     let r = c.advance_framed-reached.result in
     let l = method a.code.now a.kinds.now a.words.now a.handlers.now in
-    rw (c.ended-in_default.ensures, c.end_of_lem.ensures, c.settle.ensures)
+    rw (c.ended-in_default.ensures, c.end_of-end.ensures, c.settle.ensures)
     (ends_other l a.budget a.s a.slots.now c.if-budget-eq0.false _ c.advance_framed-reached.ensures.slots_after (settled_other r.state.return_type r.decision c.in_default.in_default-own.keys2))
 
 pub commit-requires : goal.commit-requires

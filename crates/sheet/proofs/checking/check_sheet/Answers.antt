@@ -37,7 +37,7 @@ loop-at-smaller c = omega arith
 pub loop-at-preserved : goal.loop-at-preserved
 loop-at-preserved c = let t = c.loop-at in
     let sheet = c.args.sheet.now in
-    let read = record_read _ _ (sym c.«record».given.1 ∙ c.check_record-record.ensures) in
+    let read = record_read _ _ (sym c.in-Read.is ∙ c.check_record-record.ensures) in
     rw c.body_length.ensures (
       record_there sheet t.at t.p _ read,
       sym (next_record sheet t.at t.p c.loop-at-test.true _ read) ∙ t.invariant.1,

@@ -1,7 +1,12 @@
 -- `check_marked` meets its contract. Assumes nothing.
+use Prim.Native.Nat.{ℕ}
 use mathlib.Core.Path.{◌≡◌, sym, ap, ◌∙◌}
+use mathlib.Core.Bool.{Bool, true}
+use mathlib.Core.List.{List}
 use borrow.Author.Tests.{not-true, not-false}
-use Rattle.rules.specs.Sheet.{contents_read, marked_check}
+use Rattle.rules.specs.declared.Mark.{Mark}
+use Rattle.rules.specs.declared.Reading.{Reading}
+use Rattle.rules.specs.Sheet.{body_length, follows, right_length, contents_read, marked_check}
 use Rattle.rules.proofs.Sheet.{disordered, wrong_length, read_on}
 use Rattle.sheet.specs.Records.{record_answer}
 use borrow.Author.Rules.{rules}
@@ -18,27 +23,24 @@ returns-then-not-right_length c = let a = c.args in
     sym (ap record_answer (wrong_length a.sheet.now a.at a.p a.mark ordered wrong))
 
 -- in its place and of the right length it is what its contents are
-placed : (c : goal.Else-not-right_length) → let a = c.args in marked_check a.sheet.now a.at a.p a.mark ≡ contents_read a.sheet.now a.at a.p a.mark
-placed c =
-    let a = c.args in
-    let ordered = sym c.may_follow.ensures ∙ not-false _ c.if-not-may_follow.false-raw in
-    let right = rw c.body_length.ensures at (sym c.right_length.ensures ∙ not-false _ c.if-not-right_length.false-raw) in
-    read_on a.sheet.now a.at a.p a.mark ordered right
+module _ (sheet : List ℕ) (at : ℕ) (p : Reading) (m : Mark) (ordered : Bool) (f : ordered ≡ follows m p.last) (size : ℕ) (e : size ≡ body_length sheet at) (right : Bool) (r : right ≡ right_length m size) where
+  placed : ordered ≡ true → right ≡ true → marked_check sheet at p m ≡ contents_read sheet at p m
+  placed g h = read_on sheet at p m (sym f ∙ g) (rw e at (sym r ∙ h))
 
 pub returns-in-LM : goal.returns-in-LM
-returns-in-LM c = c.read_sizes.ensures ∙ sym (ap record_answer (placed c.before.before.before ∙ ap (contents_read c.args.sheet.now c.args.at c.args.p) c.in-LM.is))
+returns-in-LM c = c.read_sizes.ensures ∙ sym (ap record_answer (placed c.args.sheet.now c.args.at c.args.p c.args.mark _ c.may_follow.ensures _ c.body_length.ensures _ c.right_length.ensures c.if-not-may_follow.false c.if-not-right_length.false ∙ ap (contents_read c.args.sheet.now c.args.at c.args.p) c.in-LM.is))
 
 pub returns-in-DS : goal.returns-in-DS
-returns-in-DS c = c.read_types.ensures ∙ sym (ap record_answer (placed c.before.before.before ∙ ap (contents_read c.args.sheet.now c.args.at c.args.p) c.in-DS.is))
+returns-in-DS c = c.read_types.ensures ∙ sym (ap record_answer (placed c.args.sheet.now c.args.at c.args.p c.args.mark _ c.may_follow.ensures _ c.body_length.ensures _ c.right_length.ensures c.if-not-may_follow.false c.if-not-right_length.false ∙ ap (contents_read c.args.sheet.now c.args.at c.args.p) c.in-DS.is))
 
 pub returns-in-CD : goal.returns-in-CD
-returns-in-CD c = c.read_code.ensures ∙ sym (ap record_answer (placed c.before.before.before ∙ ap (contents_read c.args.sheet.now c.args.at c.args.p) c.in-CD.is))
+returns-in-CD c = c.read_code.ensures ∙ sym (ap record_answer (placed c.args.sheet.now c.args.at c.args.p c.args.mark _ c.may_follow.ensures _ c.body_length.ensures _ c.right_length.ensures c.if-not-may_follow.false c.if-not-right_length.false ∙ ap (contents_read c.args.sheet.now c.args.at c.args.p) c.in-CD.is))
 
 pub returns-in-KI : goal.returns-in-KI
-returns-in-KI c = c.read_constant.ensures ∙ sym (ap record_answer (placed c.before.before.before ∙ ap (contents_read c.args.sheet.now c.args.at c.args.p) c.in-KI.is))
+returns-in-KI c = c.read_constant.ensures ∙ sym (ap record_answer (placed c.args.sheet.now c.args.at c.args.p c.args.mark _ c.may_follow.ensures _ c.body_length.ensures _ c.right_length.ensures c.if-not-may_follow.false c.if-not-right_length.false ∙ ap (contents_read c.args.sheet.now c.args.at c.args.p) c.in-KI.is))
 
 pub returns-in-EX : goal.returns-in-EX
-returns-in-EX c = c.read_handler.ensures ∙ sym (ap record_answer (placed c.before.before.before ∙ ap (contents_read c.args.sheet.now c.args.at c.args.p) c.in-EX.is))
+returns-in-EX c = c.read_handler.ensures ∙ sym (ap record_answer (placed c.args.sheet.now c.args.at c.args.p c.args.mark _ c.may_follow.ensures _ c.body_length.ensures _ c.right_length.ensures c.if-not-may_follow.false c.if-not-right_length.false ∙ ap (contents_read c.args.sheet.now c.args.at c.args.p) c.in-EX.is))
 
 pub returns-in-AR : goal.returns-in-AR
-returns-in-AR c = c.read_arguments.ensures ∙ sym (ap record_answer (placed c.before.before.before ∙ ap (contents_read c.args.sheet.now c.args.at c.args.p) c.in-AR.is))
+returns-in-AR c = c.read_arguments.ensures ∙ sym (ap record_answer (placed c.args.sheet.now c.args.at c.args.p c.args.mark _ c.may_follow.ensures _ c.body_length.ensures _ c.right_length.ensures c.if-not-may_follow.false c.if-not-right_length.false ∙ ap (contents_read c.args.sheet.now c.args.at c.args.p) c.in-AR.is))
