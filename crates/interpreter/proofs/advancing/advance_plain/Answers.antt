@@ -7,11 +7,11 @@ use Rattle.rules.specs.Questions.{method}
 use Rattle.rules.proofs.Legal.{ordinary_legal}
 use Rattle.return_types.specs.Settled.{settled}
 use Rattle.interpreter.proofs.Steps.{Going, turn, ends_there, all_taken}
-use borrow.Author.Rules.{rules}
+use borrow.Enum.Refused.{opened}
 use Rattle.interpreter.proofs.advancing.advance_plain.Goals as goal
 
 pub loop-u-init : goal.loop-u-init
-loop-u-init c = let p = c.requires in record { upto = p.1; long = refl; framed = p.0; rest = refl }
+loop-u-init c = let p = c.requires in record { upto = p.taken_le_most; long = refl; framed = p.slots_value; rest = refl }
 
 pub decide_framed-decision-requires : goal.decide_framed-decision-requires
 decide_framed-decision-requires c = c.loop-u.invariant.framed
@@ -21,7 +21,7 @@ shape_of-slots-in_default c = c.loop-u.invariant.long
 
 pub returns-in_default : goal.returns-in_default
 returns-in_default c = let t = c.loop-u in
-    ends_there _ _ _ _ _ t.slots t.t t.steps t.invariant c.decide_framed-decision.result c.decide_framed-decision.ensures c.in_default.in_default-own.keys2
+    ends_there _ _ _ _ _ t.slots t.t t.steps t.invariant c.decide_framed-decision.result c.decide_framed-decision.ensures (opened c.in_default.in_default-own.keys2)
 
 pub shape_of-slots-then-steps-most : goal.shape_of-slots-then-steps-most
 shape_of-slots-then-steps-most c = c.loop-u.invariant.long

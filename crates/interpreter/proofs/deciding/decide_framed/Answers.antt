@@ -23,7 +23,7 @@ decide_located-requires c = let a = c.args in
     let l = method a.code.now a.kinds.now a.words.now [] in
     let f = c.requires in
     let d = decodes l.code a.s.pc _ _ _ _ (sym c.in-Instruction.is ∙ c.decode-decoded.ensures) in
-    rw c.locate-i.ensures ((framed l a.s _ f).short_code, in_table l a.s a.slots.now f _ _ _ _ d)
+    rw c.locate-i.ensures (record { code_len_bound = (framed l a.s _ f).short_code; op_value = in_table l a.s a.slots.now f _ _ _ _ d })
 
 pub returns-in-Refused : goal.returns-in-Refused
 returns-in-Refused c = let a = c.args in

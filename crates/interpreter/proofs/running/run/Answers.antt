@@ -12,9 +12,11 @@ run_framed-requires c = row_passed _ (sym c.in-Passed.is ∙ c.check_frame-asked
 pub returns-in-Refused : goal.returns-in-Refused
 returns-in-Refused c = let a = c.args in
     let l = method a.code.now a.kinds.now a.words.now a.handlers.now in
-    accounted l a.budget a.s a.slots.now _ (refused_run l a.budget a.s a.slots.now _ (row_refused _ _ (sym c.in-Refused.is ∙ c.check_frame-asked.ensures _)))
+    let k = accounted l a.budget a.s a.slots.now _ (refused_run l a.budget a.s a.slots.now _ (row_refused _ _ (sym c.in-Refused.is ∙ c.check_frame-asked.ensures _))) in
+    record { slots_after = k.0; account = k.1 }
 
 pub returns-in-Passed : goal.returns-in-Passed
 returns-in-Passed c = let a = c.args in
     let l = method a.code.now a.kinds.now a.words.now a.handlers.now in
-    accounted l a.budget a.s a.slots.now _ (c.run_framed.ensures ∙ passed_run l a.budget a.s a.slots.now (row_passed _ (sym c.in-Passed.is ∙ c.check_frame-asked.ensures _)))
+    let k = accounted l a.budget a.s a.slots.now _ (c.run_framed.ensures ∙ passed_run l a.budget a.s a.slots.now (row_passed _ (sym c.in-Passed.is ∙ c.check_frame-asked.ensures _))) in
+    record { slots_after = k.0; account = k.1 }

@@ -5,7 +5,7 @@ use Rattle.rules.specs.Questions.{method}
 use Rattle.return_types.specs.Settled.{settled}
 use Rattle.interpreter.proofs.Steps.{settled_other}
 use Rattle.interpreter.proofs.Taken.{no_budget, legal_last, ends_stopped, ends_other}
-use borrow.Author.Rules.{rules}
+use borrow.Enum.Refused.{opened}
 use Rattle.interpreter.proofs.running.run_framed.Goals as goal
 
 pub returns-then-budget-eq0 : goal.returns-then-budget-eq0
@@ -18,7 +18,7 @@ returns-in_default c = let a = c.args in
     let r = c.advance_framed-reached.result in
     let l = method a.code.now a.kinds.now a.words.now a.handlers.now in
     rw (c.ended-in_default.ensures, c.end_of-end.ensures, c.settle.ensures)
-    (ends_other l a.budget a.s a.slots.now c.if-budget-eq0.false _ c.advance_framed-reached.ensures.slots_after (settled_other r.state.return_type r.decision c.in_default.in_default-own.keys2))
+    (ends_other l a.budget a.s a.slots.now c.if-budget-eq0.false _ c.advance_framed-reached.ensures.slots_after (settled_other r.state.return_type r.decision (opened c.in_default.in_default-own.keys2)))
 
 pub commit-requires : goal.commit-requires
 commit-requires c = let a = c.args in

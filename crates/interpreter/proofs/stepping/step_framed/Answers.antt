@@ -4,15 +4,15 @@ use Rattle.rules.specs.Questions.{method}
 use Rattle.return_types.specs.Settled.{settled}
 use Rattle.interpreter.proofs.Steps.{settled_other, settled_there, legal_there}
 use Rattle.interpreter.proofs.Taken.{step_ordinary, step_other}
-use borrow.Author.Rules.{rules}
+use borrow.Enum.Refused.{opened}
 use Rattle.interpreter.proofs.stepping.step_framed.Goals as goal
 
 pub returns-in_default : goal.returns-in_default
 returns-in_default c = let a = c.args in
     let l = method a.code.now a.kinds.now a.words.now a.handlers.now in
     let r = c.advance_framed-reached in
-    rw (c.settle.ensures, settled_there l a.s a.slots.now _ r.ensures.0 r.result.decision)
-    (step_other l a.s a.slots.now _ r.ensures.0 (settled_other r.result.state.return_type r.result.decision c.in_default.in_default-own.keys2))
+    rw (c.settle.ensures, settled_there l a.s a.slots.now _ r.ensures.slots_after r.result.decision)
+    (step_other l a.s a.slots.now _ r.ensures.slots_after (settled_other r.result.state.return_type r.result.decision (opened c.in_default.in_default-own.keys2)))
 
 pub commit-requires : goal.commit-requires
 commit-requires c = let a = c.args in
