@@ -2,15 +2,10 @@
 use Prim.Native.Nat.{◌/◌, ◌%◌, ◌^◌}
 use mathlib.Core.Path.{◌≡◌}
 use native.Mathlib.Omega.{arith}
-use Rattle.history.proofs.answer_words.word_answer.Statement.{statement}
-use Rattle.history.proofs.answer_words.word_answer.Tie as tie
+use Rattle.history.proofs.answer_words.word_answer.Goals as goal
 
-returns : tie.Need-returns
-returns c =
-    let a = c.args in
+pub returns : goal.returns
+returns c = let a = c.args in
     let low : a.word % 2 ^ 32 ≡ a.word = omega (arith, c.ranges.word) in
     let high : a.word / 2 ^ 32 ≡ 0 = omega (arith, c.ranges.word) in
     rw (low, high)
-
-pub word_answer_spec : {M : Type 1} → statement M
-word_answer_spec = tie.close (tie.spec returns)

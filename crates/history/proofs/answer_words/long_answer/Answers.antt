@@ -1,0 +1,6 @@
+-- `long_answer` meets its contract. Assumes nothing.
+use borrow.Author.Rules.{rules}
+use Rattle.history.proofs.answer_words.long_answer.Goals as goal
+
+pub returns : goal.returns
+returns c = rw (c.low_word.ensures, c.high_word.ensures)

@@ -1,0 +1,15 @@
+-- `pressed_answer` meets its contract. Assumes nothing.
+use borrow.Author.Rules.{rules}
+use Rattle.history.proofs.answer_words.pressed_answer.Goals as goal
+
+pub returns-in-Granted : goal.returns-in-Granted
+returns-in-Granted c = simp (c.in-Granted.is, ← c.number_answer.ensures)
+
+pub returns-in-Return : goal.returns-in-Return
+returns-in-Return c = simp (c.in-Return.is, ← c.value_answer.ensures)
+
+pub returns-in-Throw : goal.returns-in-Throw
+returns-in-Throw c = simp (c.in-Throw.is, ← c.number_answer-in-Throw.ensures)
+
+pub returns-in-Refused : goal.returns-in-Refused
+returns-in-Refused c = simp (c.in-Refused.is, ← c.number_answer-in-Refused.ensures)
