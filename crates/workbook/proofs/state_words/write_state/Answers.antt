@@ -1,0 +1,6 @@
+-- `write_state` meets its contract. Assumes nothing.
+use borrow.Author.Rules.{rules}
+use Rattle.workbook.proofs.state_words.write_state.Goals as goal
+
+pub returns : goal.returns
+returns c = rw (← c.low_word.ensures, ← c.high_word.ensures) c.write_words.ensures
