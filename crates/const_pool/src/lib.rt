@@ -1,5 +1,6 @@
 // The constant pool (const_pool.rs) as kinds and words: question 9, and the words of a constant as they stand, a NaN's payload included.
 #![tactic(auto)]
+
 ghost use Rattle.std.specs.Prelude.{◌≡◌, get_or};
 ghost use Rattle.values.specs.Kinds.{int, long, float, double};
 ghost use Rattle.const_pool.specs.Constant.{constant_of};

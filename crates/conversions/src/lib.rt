@@ -1,5 +1,6 @@
 // Conversions between ints, longs, floats and doubles as words (JVMS 2.8, 2.11.4): a function for each instruction, named by its mnemonic.
 #![tactic(auto)]
+
 mod float_to_float;
 mod float_to_int;
 mod int_to_float;

@@ -1,5 +1,6 @@
 // The method descriptor of JVMS 4.3.3: whether bytes are one, the places of its parameters, and its return type.
 #![tactic(auto)]
+
 mod descriptors;
 mod fields;
 mod letters;

@@ -1,5 +1,6 @@
 // What an instruction does with its words, by its shared opcode: each promise is the result of the instruction's row in the table.
 #![tactic(auto)]
+
 mod branches;
 mod choice;
 mod comparisons;

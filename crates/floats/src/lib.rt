@@ -1,5 +1,6 @@
 // Arithmetic and comparison of floats and doubles as words (JVMS 2.8, 2.11.3): a function for each instruction, named by its mnemonic.
 #![tactic(auto)]
+
 mod double;
 mod order;
 mod single;

@@ -1,5 +1,6 @@
 // The frame of a method: whether it stands, what an instruction needs of it, and its words read and written.
 #![tactic(auto)]
+
 mod places;
 mod questions;
 mod slots;

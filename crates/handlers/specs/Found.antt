@@ -2,7 +2,6 @@
 use Rattle.std.specs.Prelude.{ℕ}
 use Rattle.std.proofs.Math.Option.{Option, none, some}
 use Rattle.handlers.specs.declared.entries.Handler.{Handler}
-use Rattle.handlers.specs.declared.entries.Handler.TheVariants as Handler
 
 abbrev pub found : Option ℕ → Handler
 found none = Handler.Nothing

@@ -1,5 +1,6 @@
 // The handlers of a method (JVMS 2.10, 4.7.3): which entry takes an ArithmeticException, and the step that catches it.
 #![tactic(auto)]
+
 mod catching;
 mod entries;
 

@@ -6,8 +6,8 @@ use Rattle.rules.specs.declared.State.{State}
 use Rattle.rules.specs.declared.Decision.{Decision}
 use Rattle.rules.specs.declared.Decision.TheVariants.{Ordinary, Return, Throw, Refused}
 use Rattle.rules.specs.Questions.{Method}
-use Rattle.rules.specs.Step.{Decided, core_machine}
-use Rattle.rules.specs.History.{AfterPress, kept, pressed_by, forward_by, forward_of}
+use Rattle.rules.specs.Step.{core_machine}
+use Rattle.rules.specs.History.{kept, pressed_by, forward_by, forward_of}
 use Rattle.rules.proofs.History.{forward_by_lem}
 use Rattle.interpreter.specs.Advance.{Reached, advance_from}
 use Rattle.interpreter.proofs.Steps.{Other, not_other, decided_there, slots_there}

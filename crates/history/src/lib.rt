@@ -1,5 +1,6 @@
 // The workbook's buttons: forward and back over an undo log, and a whole list of presses.
 #![tactic(auto)]
+
 mod answer_words;
 mod back_press;
 mod forward_press;

@@ -19,7 +19,6 @@ use Rattle.rules.proofs.Questions.{of_core, not_core, wide_iinc, wide_local}
 use Rattle.operands.specs.declared.switches.Switch.{Switch}
 use Rattle.operands.specs.Switch.{switch_of}
 use Rattle.instructions.specs.declared.decoding.Decoded.{Decoded}
-use Rattle.instructions.specs.declared.decoding.Decoded.TheVariants as Decoded
 use Rattle.instructions.specs.Table.{format_of, entry_of, length_in, format_in}
 use Rattle.instructions.specs.Decode.{decoded}
 use Rattle.instructions.specs.Stages.{fields, fields_of, sized_of, switch_decoded}

@@ -5,7 +5,6 @@ use Rattle.rules.specs.Check.{Check, passed, refused}
 use Rattle.rules.specs.Instructions.{row_of}
 use Rattle.rules.specs.Fetch.{Instruction}
 use Rattle.instructions.specs.declared.decoding.Decoded.{Decoded}
-use Rattle.instructions.specs.declared.decoding.Decoded.TheVariants as Decoded
 use Rattle.instructions.specs.Table.{entry_of}
 
 unfoldable pub decoded : Check Instruction → Decoded

@@ -4,7 +4,6 @@ use Rattle.std.specs.Prelude.{ℕ, ◌+◌, ◌-◌, cond, List, ltb, leb, eqb, 
 use Rattle.values.specs.Integers.{low}
 use Rattle.rules.specs.Fetch.{u8, u16, s8, s16, s32}
 use Rattle.operands.specs.declared.switches.Switch.{Switch}
-use Rattle.operands.specs.declared.switches.Switch.TheVariants as Switch
 use Rattle.instructions.specs.declared.decoding.Fields.{Fields}
 use Rattle.instructions.specs.declared.decoding.Decoded.{Decoded}
 use Rattle.instructions.specs.declared.decoding.Decoded.TheVariants.{Instruction, Refused}

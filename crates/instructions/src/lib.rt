@@ -1,5 +1,6 @@
 // Everything that a step must know about an instruction before it touches the frame: the table, and questions 4 and 5; and the page of opcodes, which is the table printed.
 #![tactic(auto)]
+
 mod decoding;
 pub mod opcodes;
 mod page;

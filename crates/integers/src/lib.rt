@@ -1,6 +1,7 @@
 // Int and long arithmetic on words (JVMS 2.11.3, 2.11.4). An int is a u32 and a long a u64, in two's complement.
 // Each promise is the formula of the instruction's row in the table.
 #![tactic(auto)]
+
 mod int;
 mod long;
 mod narrow;

@@ -26,7 +26,6 @@ use Rattle.instructions.specs.Table.{is_in, shared_in}
 use Rattle.effects.specs.Families.{shared_opcodes}
 use Rattle.rules.specs.declared.Checked.TheVariants as Checked
 use Rattle.frame.specs.declared.places.Placed.{Placed}
-use Rattle.frame.specs.declared.places.Placed.TheVariants as Placed
 use Rattle.rules.specs.Answers.{checked}
 use Rattle.frame.specs.Place.{place_of}
 use Rattle.rules.proofs.Answers.{row_refused}

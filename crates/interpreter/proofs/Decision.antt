@@ -12,7 +12,6 @@ use Rattle.values.specs.Integers.{signed, low}
 use Rattle.values.specs.Words.{meaning}
 use Rattle.rules.specs.declared.State.{State}
 use Rattle.rules.specs.declared.Decision.{Decision}
-use Rattle.rules.specs.declared.Decision.TheVariants as Decision
 use Rattle.rules.specs.Check.{Check, passed, refused, ◌>>=◌}
 use Rattle.rules.specs.Forms.{Rule, Operand, Result, offset_for, pushes, stores, divides, branches, returns}
 use Rattle.rules.specs.Instructions.{row_of}
@@ -28,7 +27,6 @@ use Rattle.operands.specs.Switch.{offset_in, table_offset, lookup_offset}
 use Rattle.instructions.specs.Table.{is_in, shared_of, entry_of, shared_in}
 use Rattle.instructions.proofs.Entries.{entry_bytes}
 use Rattle.effects.specs.declared.outcome.Effect.{Effect}
-use Rattle.effects.specs.declared.outcome.Effect.TheVariants as Effect
 use Rattle.effects.specs.Effects.{six, effect_of, effect_at}
 use Rattle.effects.specs.Families.{shared_opcodes}
 use Rattle.effects.proofs.OwnRow.{own_effect_lem, shared_listed}

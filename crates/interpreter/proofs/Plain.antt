@@ -24,7 +24,7 @@ use Rattle.rules.specs.Fetch.{Instruction, fetched}
 use Rattle.rules.specs.Returns.{returned}
 use Rattle.rules.specs.Questions.{Method, method, pushed, frame_check, needs_check}
 use Rattle.rules.specs.Handlers.{handler_from, handler_at}
-use Rattle.rules.specs.Step.{frame, base, words_at, update, inside, ordinary, following, target, return_of, thrown_to, thrown_at, outcome, decision, decide_frame, decide_of, moved, written}
+use Rattle.rules.specs.Step.{frame, base, words_at, update, inside, ordinary, following, target, thrown_to, thrown_at, outcome, decision, decide_frame, decide_of, moved, written}
 use Rattle.rules.proofs.Questions.{frame_passed}
 use Rattle.rules.proofs.Legal.{ordinary_legal, written_length, still_framed}
 use Rattle.rules.proofs.Step.{result}

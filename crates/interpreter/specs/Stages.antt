@@ -5,24 +5,19 @@ use Rattle.values.specs.Kinds.{int, long, float, double}
 use Rattle.values.specs.Words.{meaning}
 use Rattle.rules.specs.declared.State.{State}
 use Rattle.rules.specs.declared.Decision.{Decision}
-use Rattle.rules.specs.declared.Decision.TheVariants as Decision
 use Rattle.rules.specs.Questions.{Method}
 use Rattle.rules.specs.Step.{first_place, inside, thrown_at, decision}
 use Rattle.operands.specs.declared.jump.Target.{Target}
-use Rattle.operands.specs.declared.jump.Target.TheVariants as Target
 use Rattle.operands.specs.Target.{target_of}
 use Rattle.operands.specs.Switch.{table_offset, lookup_offset}
 use Rattle.instructions.specs.Table.{pushes_in, locals_in, shared_in}
 use Rattle.const_pool.specs.declared.Constant.{Constant}
-use Rattle.const_pool.specs.declared.Constant.TheVariants as Constant
 use Rattle.const_pool.specs.Constant.{constant_of}
 use Rattle.effects.specs.declared.outcome.Six.{Six}
 use Rattle.effects.specs.declared.outcome.Effect.{Effect}
-use Rattle.effects.specs.declared.outcome.Effect.TheVariants as Effect
 use Rattle.effects.specs.Effects.{effect_at}
 use Rattle.interpreter.specs.declared.reading.Four.{Four}
 use Rattle.interpreter.specs.declared.reading.Read.{Read}
-use Rattle.interpreter.specs.declared.reading.Read.TheVariants as Read
 use Rattle.interpreter.specs.declared.finishing.Located.{Located}
 
 -- ---- the words that it works on

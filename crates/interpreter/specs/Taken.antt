@@ -2,9 +2,7 @@
 use Rattle.std.specs.Prelude.{ℕ, List}
 use Rattle.rules.specs.declared.State.{State}
 use Rattle.rules.specs.declared.Decision.{Decision}
-use Rattle.rules.specs.declared.Decision.TheVariants as Decision
 use Rattle.rules.specs.declared.End.{End}
-use Rattle.rules.specs.declared.End.TheVariants as End
 use Rattle.rules.specs.Step as step
 use Rattle.rules.specs.Run as run
 use Rattle.return_types.specs.Settled.{settled}

@@ -1,5 +1,6 @@
 // The interpreter loop (interpreter.rs): one step decided, one step taken, and a run of steps.
 #![tactic(auto)]
+
 mod advancing;
 mod catching;
 mod deciding;

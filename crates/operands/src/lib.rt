@@ -1,5 +1,6 @@
 // The operand bytes of an instruction (JVMS 6.5, 'Format'), read on any code at any offset.
 #![tactic(auto)]
+
 mod bytes;
 mod jump;
 mod switches;

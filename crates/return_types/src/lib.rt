@@ -1,5 +1,6 @@
 // What a method gives back, by its return type (JVMS 2.11.8), with question 32.
 #![tactic(auto)]
+
 ghost use Rattle.std.specs.Prelude.{◌≡◌, not, ◌||◌};
 ghost use Rattle.values.specs.declared.Value.TheVariants.{Int};
 ghost use Rattle.rules.specs.Returns.{is_return_type, suits, narrowed, given_back};

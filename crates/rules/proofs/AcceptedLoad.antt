@@ -16,7 +16,7 @@ use Rattle.rules.specs.Check.{Check, passed, refused, ◌>>=◌, ◌>>◌}
 use Rattle.rules.specs.Fetch.{u8}
 use Rattle.rules.specs.Questions.{method}
 use Rattle.rules.specs.Step.{frame}
-use Rattle.rules.specs.Sheet.{record_end, is_wide, sheet_check, memory_check, Pool, with_words, with_value, pool_from, loaded_pool, arguments_from, loaded_frame, loaded_slots, loaded_state, handlers_length, accepted_load, load_by, load_of, part_of, code_of, handlers_of}
+use Rattle.rules.specs.Sheet.{record_end, is_wide, sheet_check, memory_check, Pool, with_words, with_value, pool_from, loaded_pool, arguments_from, loaded_frame, loaded_slots, loaded_state, handlers_length, accepted_load, load_by, load_of, code_of, handlers_of}
 use Rattle.rules.proofs.Check.{first_passed, last_passed}
 use Rattle.rules.proofs.Questions.{Framed}
 use Rattle.rules.proofs.Sheet.{sheet_numbered, memory_above, load_accepted}

@@ -1,14 +1,14 @@
 -- The method descriptor (JVMS 4.3.3): what is accepted is one, and every one is accepted, with its parameters' kinds and its return type. Assumes nothing.
 use Prim.Native.Nat.{ℕ, zero, suc, ◌+◌, ◌-◌, ◌≤◌, ◌<◌}
 use mathlib.Core.Path.{◌≡◌, refl, sym, ap, subst, ◌∙◌}
-use mathlib.Core.Bool.{Bool, true, false, ◌||◌}
+use mathlib.Core.Bool.{Bool, true, false}
 use mathlib.Core.List.{List, [], ◌∷◌, ◌++◌, append_assoc, append-nil}
 use native.Mathlib.Omega.{arith}
 use lib.Dec.{eqb}
 use lib.ListN.{length, drop, length-append, length-drop}
 use borrow.Author.Tests.{leb-true, eqb-true, eqb-false, le-leb, lt-leb, eq-eqb, ne_eqb}
 use Rattle.values.specs.Kinds.{Kind, places_of}
-use Rattle.rules.specs.Check.{Check, passed, refused, ◌else◌, ◌>>◌}
+use Rattle.rules.specs.Check.{passed, refused, ◌else◌, ◌>>◌}
 use Rattle.rules.specs.Fetch.{u8}
 use Rattle.rules.specs.Descriptor.{class_type, void_type, array_type, opening, closing, FieldType, Parameters, no_parameter, next_parameter, is_base, return_letter, Return, returns_field, returns_void, MethodDescriptor, descriptor, field_end, kind_of, kinds_from, fields_end, parameter_kinds, parameters_end, return_end, return_type, descriptor_check}
 use Rattle.rules.specs.Returns.{is_return_type}

@@ -3,7 +3,7 @@
 use Prim.Native.Nat.{ℕ, zero, suc, ◌+◌, ◌-◌, ◌*◌, ◌<◌}
 use mathlib.Core.Path.{◌≡◌, refl, sym, ap, subst, ◌∙◌}
 use mathlib.Core.Bool.{Bool, true, false, cond}
-use mathlib.Core.List.{List, ◌++◌}
+use mathlib.Core.List.{List}
 use native.Mathlib.Omega.{arith}
 use native.Mathlib.Nat.{add-zero}
 use borrow.Author.Tests.{eqb-true, eqb-false, ltb-true, ltb-false}
@@ -16,7 +16,7 @@ use Rattle.rules.specs.Check.{passed}
 use Rattle.rules.specs.Fetch.{u8, u32}
 use Rattle.rules.specs.Questions.{Method, method}
 use Rattle.rules.specs.Step.{Decider, machine_by}
-use Rattle.rules.specs.Sheet.{record_end, pool_index, pool_tag, is_wide, sheet_check, memory_check, Pool, with_words, with_value, pool_from, pool_start, loaded_pool, handlers_length, arguments_from, loaded_frame, loaded_slots, loaded_state, accepted_load, AfterLoad, load_of, code_of, handlers_of}
+use Rattle.rules.specs.Sheet.{record_end, pool_index, pool_tag, is_wide, sheet_check, memory_check, Pool, with_words, with_value, pool_from, pool_start, loaded_pool, arguments_from, loaded_frame, loaded_slots, loaded_state, accepted_load, AfterLoad, load_of, code_of, handlers_of}
 use Rattle.rules.specs.PlainWalk.{Stage, stage_of, PlainWalk, Press}
 use Rattle.rules.specs.Walk.{Walked, walk_of, Demand3}
 use Rattle.rules.specs.FromSheet.{Lengths, places_from, places_by, kind_by, word_by, through_records, in_pool, sheet_method, argument_or_zero, stage0, plain_walk_by, reading_of, plain_walk_of}

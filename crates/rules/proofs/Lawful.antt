@@ -15,7 +15,7 @@ use Rattle.rules.specs.Forms.{Result, pushes, stores, divides, branches, returns
 use Rattle.rules.specs.Fetch.{Instruction, fetched}
 use Rattle.rules.specs.Questions.{Method, frame_size, pushed, frame_check, needs_check}
 use Rattle.rules.specs.Handlers.{handler_at}
-use Rattle.rules.specs.Step.{base, words_at, ordinary, following, thrown_to, thrown_at, outcome, decision, decide_frame, Decided, Machine, core_rules, core_machine}
+use Rattle.rules.specs.Step.{base, words_at, ordinary, following, thrown_to, thrown_at, outcome, decision, decide_frame, Machine, core_machine}
 use Rattle.rules.specs.Run.{uncounted}
 use Rattle.rules.proofs.Check.{bind_same}
 use Rattle.rules.proofs.Step.{result}

@@ -13,7 +13,7 @@ use Rattle.values.specs.Kinds.{places_of}
 use Rattle.rules.specs.declared.State.{State}
 use Rattle.rules.specs.declared.Decision.{Decision}
 use Rattle.rules.specs.declared.Decision.TheVariants.{Ordinary, Return, Throw, Refused}
-use Rattle.rules.specs.Check.{Check, passed, refused, ◌else◌, ◌>>=◌, ◌>>◌, ◌≤ⁿ◌, ◌=ⁿ◌}
+use Rattle.rules.specs.Check.{Check, passed, refused, ◌≤ⁿ◌, ◌=ⁿ◌}
 use Rattle.rules.specs.Forms.{Row, Operand, Format, alone, implied, byte, short, index, index2, index_const, branch, branch4, table, pairs, widened, Result, pushes, stores, divides, branches, returns}
 use Rattle.rules.specs.Instructions.{row_of}
 use Rattle.rules.specs.Fetch.{u8, Instruction, core_row, core, sized, wide_opcode, wide_check, table_check, lookup_check, by_format, fetched}

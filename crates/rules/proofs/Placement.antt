@@ -1,7 +1,7 @@
 -- Where what was read of a sheet lies: in the sheet, one part after the other, and code and handlers at offsets of 32 bits. Assumes nothing.
 use Prim.Native.Nat.{ℕ, zero, suc, ◌+◌, ◌*◌, ◌%◌, ◌≤◌, ◌<◌}
 use mathlib.Core.Path.{◌≡◌, refl}
-use mathlib.Core.Bool.{Bool, true, ◌||◌, cond}
+use mathlib.Core.Bool.{true, ◌||◌}
 use mathlib.Core.Logic.{⊎_elim}
 use mathlib.Core.List.{List}
 use native.Mathlib.Omega.{arith}
@@ -11,7 +11,7 @@ use borrow.Author.Tests.{ltb-true, leb-true, eqb-true}
 use Rattle.rules.specs.declared.Mark.{Mark}
 use Rattle.rules.specs.declared.Mark.TheVariants.{LM, DS, CD, KI, EX, AR}
 use Rattle.rules.specs.declared.Reading.{Reading}
-use Rattle.rules.specs.Check.{Check, passed}
+use Rattle.rules.specs.Check.{passed}
 use Rattle.rules.specs.Fetch.{u8, u16}
 use Rattle.rules.specs.Sheet.{body_length, body_at, record_end, known_mark, follows, right_length, pool_index, last_index, is_wide, unread, with_record, contents_check, marked_check, record_check, end_check, read_from, sheet_check}
 use Rattle.rules.proofs.Check.{first_passed, last_passed, or_true, cases, Holds, asked, after, bound, held, either}

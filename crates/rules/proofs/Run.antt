@@ -10,7 +10,6 @@ use Rattle.rules.specs.declared.Update.{Update}
 use Rattle.rules.specs.declared.Decision.{Decision}
 use Rattle.rules.specs.declared.Decision.TheVariants.{Ordinary, Return, Throw, Refused}
 use Rattle.rules.specs.declared.End.{End}
-use Rattle.rules.specs.declared.End.TheVariants as End
 use Rattle.rules.specs.Check.{Check, passed, refused}
 use Rattle.rules.specs.Questions.{frame_check}
 use Rattle.rules.specs.Step.{frame, Decided, Machine, decide_on, moved, written, cleared}

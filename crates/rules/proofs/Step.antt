@@ -14,7 +14,7 @@ use Rattle.rules.specs.Check.{passed, refused, ◌else◌, ◌>>◌, ◌>>=◌}
 use Rattle.rules.specs.Forms.{Result}
 use Rattle.rules.specs.Fetch.{Instruction, fetched}
 use Rattle.rules.specs.Questions.{Method, frame_check, needs_check}
-use Rattle.rules.specs.Step.{words_at, inside, outcome, decision, decide_frame, Decided, Machine, decide_on, moved, written, cleared}
+use Rattle.rules.specs.Step.{words_at, inside, outcome, decision, decide_frame, Machine, decide_on, moved, written, cleared}
 use Rattle.rules.specs.Run.{ends, run_from}
 
 -- ---- question 10

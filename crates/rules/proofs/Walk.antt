@@ -12,7 +12,6 @@ use lib.Seq.{length-take-le}
 use lib.Dec.{ltb, leb}
 use Rattle.rules.specs.declared.State.{State}
 use Rattle.rules.specs.declared.Decision.{Decision}
-use Rattle.rules.specs.declared.Decision.TheVariants as Decision
 use Rattle.rules.specs.declared.Pressed.{Pressed}
 use Rattle.rules.specs.declared.Pressed.TheVariants.{Granted, Return, Throw, Refused}
 use Rattle.rules.specs.declared.End.TheVariants as End

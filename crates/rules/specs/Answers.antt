@@ -4,15 +4,10 @@ use Rattle.std.specs.Prelude.{ℕ, ◌/◌, ◌%◌, ◌^◌}
 use Rattle.values.specs.declared.Value.{Value}
 use Rattle.values.specs.declared.Value.TheVariants.{Void, Int, Float, Reference, Long, Double}
 use Rattle.rules.specs.declared.Checked.{Checked}
-use Rattle.rules.specs.declared.Checked.TheVariants as Checked
 use Rattle.rules.specs.declared.Decision.{Decision}
-use Rattle.rules.specs.declared.Decision.TheVariants as Decision
 use Rattle.rules.specs.declared.End.{End}
-use Rattle.rules.specs.declared.End.TheVariants as End
 use Rattle.rules.specs.declared.Pressed.{Pressed}
-use Rattle.rules.specs.declared.Pressed.TheVariants as Pressed
 use Rattle.rules.specs.declared.Load.{Load}
-use Rattle.rules.specs.declared.Load.TheVariants as Load
 use Rattle.rules.specs.declared.Answer.{Answer}
 use Rattle.rules.specs.Check.{Check, passed, refused}
 

@@ -4,12 +4,11 @@ use Rattle.std.proofs.Math.Seq.{paste}
 use Rattle.rules.specs.declared.State.{State}
 use Rattle.rules.specs.declared.Update.{Update}
 use Rattle.rules.specs.declared.Decision.{Decision}
-use Rattle.rules.specs.declared.Decision.TheVariants as Decision
 use Rattle.rules.specs.declared.Pressed.{Pressed}
 use Rattle.rules.specs.declared.Pressed.TheVariants.{Granted, Return, Throw, Refused}
 use Rattle.rules.specs.Check.{Check, passed, refused, ◌else◌, ◌>>◌, ◌≤ⁿ◌, ◌<ⁿ◌, ◌=ⁿ◌}
 use Rattle.rules.specs.Questions.{Method, frame_size, frame_check}
-use Rattle.rules.specs.Step.{Decided, Machine, decide_on, moved, written, cleared}
+use Rattle.rules.specs.Step.{Machine, decide_on, moved, written, cleared}
 
 -- what a press leaves, and its answer
 pub record AfterPress : Type 0 where

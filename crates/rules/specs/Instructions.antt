@@ -8,7 +8,6 @@ use Rattle.std.specs.Float.Ieee as Ieee
 use Rattle.std.specs.Float.{binary32, binary64}
 use Rattle.std.specs.Float.Ieee.{of_int, to_signed}
 use Rattle.values.specs.declared.Value.{Value}
-use Rattle.values.specs.declared.Value.TheVariants as Value
 use Rattle.values.specs.Kinds.{int, long, float, double, reference}
 use Rattle.values.specs.Integers.{low, to_byte, to_char, to_short, ◌=ᶻ◌, ◌<ᶻ◌, ◌≤ᶻ◌, −1, order, bitwise, and, or, xor, flipped}
 use Rattle.values.specs.Floats.{order_or, nearest}

@@ -11,7 +11,7 @@ use Rattle.rules.specs.Step.{Decider, Machine}
 use Rattle.rules.specs.Sheet.{AfterLoad, load_of, code_of, handlers_of}
 use Rattle.rules.specs.PlainWalk.{PlainWalk, Press, forward, back, plain_answers}
 use Rattle.rules.specs.Walk.{Walked, walk_of, Demand3}
-use Rattle.rules.specs.FromSheet.{Lengths, plain_walk_of}
+use Rattle.rules.specs.FromSheet.{plain_walk_of}
 use Rattle.rules.specs.Answers.{pressed_answer}
 
 -- ---- bytes and words

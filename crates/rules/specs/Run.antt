@@ -5,10 +5,9 @@ use Rattle.rules.specs.declared.State.{State}
 use Rattle.rules.specs.declared.Decision.{Decision}
 use Rattle.rules.specs.declared.Decision.TheVariants.{Ordinary, Return, Throw, Refused}
 use Rattle.rules.specs.declared.End.{End}
-use Rattle.rules.specs.declared.End.TheVariants as End
 use Rattle.rules.specs.Check.{Check, passed, refused}
 use Rattle.rules.specs.Questions.{frame_check}
-use Rattle.rules.specs.Step.{Decided, Machine, decide_on, moved, written, cleared}
+use Rattle.rules.specs.Step.{Machine, decide_on, moved, written, cleared}
 
 pub record Ran : Type 0 where
   pub state : State

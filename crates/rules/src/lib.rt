@@ -1,5 +1,6 @@
 // The types that the rules speak of; the rules themselves are in specs/.
 #![tactic(auto)]
+
 use values::Value;
 
 // A line of the page of opcodes: an opcode, its length in bytes, and the places that it pops and pushes. Length 0 marks a switch, 254 WIDE and 255 an opcode outside

@@ -3,9 +3,7 @@ use Rattle.rules.specs.declared.Mark.{Mark}
 use Rattle.rules.specs.declared.Reading.{Reading}
 use Rattle.rules.specs.Check.{Check, passed, refused}
 use Rattle.sheet.specs.declared.marks.Known.{Known}
-use Rattle.sheet.specs.declared.marks.Known.TheVariants as Known
 use Rattle.sheet.specs.declared.records.Record.{Record}
-use Rattle.sheet.specs.declared.records.Record.TheVariants as Record
 
 abbrev pub mark_answer : Check Mark → Known
 mark_answer (passed m) = Known.Mark m

@@ -1,5 +1,6 @@
 // The sheet: a file that holds one method with its constants, handlers and arguments, checked whole and then filled into lent memory.
 #![tactic(auto)]
+
 mod checking;
 mod contents;
 mod filling;

@@ -11,12 +11,10 @@ use lib.Seq.{paste, length-paste}
 use Rattle.rules.specs.declared.State.{State}
 use Rattle.rules.specs.declared.Reading.{Reading}
 use Rattle.rules.specs.declared.Decision.{Decision}
-use Rattle.rules.specs.declared.Decision.TheVariants as Decision
 use Rattle.rules.specs.declared.Pressed.{Pressed}
 use Rattle.rules.specs.declared.Pressed.TheVariants.{Granted, Return, Throw, Refused}
 use Rattle.rules.specs.declared.End.TheVariants as End
 use Rattle.rules.specs.declared.Load.{Load}
-use Rattle.rules.specs.declared.Load.TheVariants as Load
 use Rattle.rules.specs.Check.{Check, passed, refused, ◌else◌, ◌>>=◌, ◌>>◌}
 use Rattle.rules.specs.Fetch.{u8}
 use Rattle.rules.specs.Questions.{Method, method}
@@ -33,7 +31,7 @@ use Rattle.rules.proofs.Sheet.{sheet_numbered, load_accepted}
 use Rattle.rules.proofs.AcceptedLoad.{was_read, Said, accepted_said, refused_above}
 use Rattle.rules.proofs.FromSheet.{demand3}
 use Rattle.rules.proofs.Replay.{from_any_load}
-use Rattle.workbook.specs.StateWords.{state_words, state_in, state_size, with_state, lengths_check, sizes_check}
+use Rattle.workbook.specs.StateWords.{state_words, state_in, state_size, with_state, sizes_check}
 use Rattle.workbook.specs.Calls.{Called, state_after, answer_after, forward_call, back_call, with_steps, run_call, presses_made, presses_call, LoadCalled, parts_of, words_check, load_by, load_for, load_call}
 use Rattle.workbook.specs.Demand3.{method_left, Calls, press_call, calls_of, answers_left, Demand3OfCalls, FromThisLoad, LeftByLoad, FromAnyLoadCall}
 use Rattle.workbook.proofs.Checks.{lengths_pass, words_yes, words_above, sizes_pass}

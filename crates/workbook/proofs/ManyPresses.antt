@@ -9,7 +9,6 @@ use lib.Seq.{paste}
 use borrow.Author.Tests.{le-leb, lt-leb}
 use Rattle.rules.specs.declared.State.{State}
 use Rattle.rules.specs.declared.Decision.{Decision}
-use Rattle.rules.specs.declared.Decision.TheVariants as Decision
 use Rattle.rules.specs.declared.Pressed.TheVariants.{Refused}
 use Rattle.rules.specs.Check.{passed, refused, ◌else◌, ◌>>◌}
 use Rattle.rules.specs.Questions.{Method, frame_check}

@@ -3,13 +3,10 @@ use Rattle.std.specs.Prelude.{ℕ, ◌*◌, ◌/◌, ◌%◌, ◌^◌, List, [],
 use Rattle.std.proofs.Math.Seq.{paste}
 use Rattle.values.specs.declared.Value.{Value}
 use Rattle.rules.specs.declared.State.{State}
-use Rattle.rules.specs.declared.Decision.{Decision}
-use Rattle.rules.specs.declared.Decision.TheVariants as Decision
 use Rattle.rules.specs.declared.Pressed.{Pressed}
 use Rattle.rules.specs.declared.Pressed.TheVariants.{Granted, Return, Throw, Refused}
 use Rattle.rules.specs.declared.Reading.{Reading}
 use Rattle.rules.specs.declared.Load.{Load}
-use Rattle.rules.specs.declared.Load.TheVariants as Load
 use Rattle.rules.specs.declared.Loaded.{Loaded}
 use Rattle.rules.specs.Check.{Check, passed, refused, ◌else◌, ◌>>=◌, ◌>>◌, ◌≤ⁿ◌, ◌<ⁿ◌}
 use Rattle.rules.specs.Questions.{Method}

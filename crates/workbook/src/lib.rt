@@ -1,5 +1,6 @@
 // The exported library: the stepper over lent memory, for programs in other languages. Every length and every word has its answer.
 #![tactic(auto)]
+
 mod leaving;
 mod lists;
 mod loads;

@@ -1,7 +1,6 @@
 -- `kind_at` meets its contract. Assumes nothing.
 use mathlib.Core.Path.{sym}
 use lib.ListN.{get_or-eq_default}
-use borrow.Author.Rules.{rules}
 use Rattle.const_pool.proofs.kind_at.Goals as goal
 
 pub returns-else-index-kinds : goal.returns-else-index-kinds

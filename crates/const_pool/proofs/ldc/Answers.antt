@@ -5,7 +5,6 @@ use lib.Dec.{eqb}
 use borrow.Author.Tests.{eq-eqb, ne_eqb}
 use Rattle.values.specs.Kinds.{int, float}
 use Rattle.const_pool.proofs.Constants.{no_entry, first_kind, second_kind, no_kind, one_word}
-use borrow.Author.Rules.{rules}
 use Rattle.const_pool.proofs.ldc.Goals as goal
 
 pub returns-then-kinds-at : goal.returns-then-kinds-at

@@ -3,7 +3,6 @@ use mathlib.Core.Path.{sym, ap, ◌∙◌}
 use borrow.Author.Tests.{not-true, not-false}
 use Rattle.rules.specs.declared.Decision.TheVariants as Decision
 use Rattle.rules.proofs.Returns.{of_another_kind, gives_back}
-use borrow.Author.Rules.{rules}
 use Rattle.return_types.proofs.give_back.Goals as goal
 
 pub returns-then-not-may_return : goal.returns-then-not-may_return

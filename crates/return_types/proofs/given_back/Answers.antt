@@ -1,5 +1,4 @@
 -- `given_back` meets its contract. Assumes nothing.
-use borrow.Author.Rules.{rules}
 use Rattle.return_types.proofs.given_back.Goals as goal
 
 pub returns-in-Int : goal.returns-in-Int

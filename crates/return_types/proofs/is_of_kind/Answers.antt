@@ -1,5 +1,4 @@
 -- `is_of_kind` meets its contract. Assumes nothing.
-use borrow.Author.Rules.{rules}
 use Rattle.return_types.proofs.is_of_kind.Goals as goal
 
 pub returns-in-Void : goal.returns-in-Void

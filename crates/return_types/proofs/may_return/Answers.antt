@@ -1,7 +1,6 @@
 -- `may_return` meets its contract. Assumes nothing.
 use mathlib.Core.Path.{sym, ◌∙◌}
 use borrow.Author.Tests.{not-true, not-false}
-use borrow.Author.Rules.{rules}
 use Rattle.return_types.proofs.may_return.Goals as goal
 
 pub returns-then-not-is_return_type : goal.returns-then-not-is_return_type

@@ -1,7 +1,6 @@
 -- `narrow` meets its contract. Assumes nothing.
 use borrow.Author.Tests.{ne_eqb}
 use Rattle.rules.specs.Returns.{narrowed}
-use borrow.Author.Rules.{rules}
 use Rattle.return_types.proofs.narrow.Goals as goal
 
 pub returns-in-90 : goal.returns-in-90

@@ -1,5 +1,4 @@
 -- `settle` meets its contract. Assumes nothing.
-use borrow.Author.Rules.{rules}
 use Rattle.return_types.proofs.settle.Goals as goal
 
 pub returns-in-Ordinary : goal.returns-in-Ordinary

@@ -6,7 +6,6 @@ use lib.Ieee.{Float, binary32, binary64, to_bits}
 use Rattle.values.specs.Floats.{nearest}
 use Rattle.conversions.proofs.RoundedBits.{to_bits_nan}
 use Rattle.conversions.proofs.Fields.{of_plus, of_minus, bits_nan, nearest_nan, nearest_negative, nearest_negative_lt}
-use borrow.Author.Rules.{rules}
 use Rattle.conversions.proofs.float_to_float.d2f.Goals as goal
 
 pub returns-then-unsigned-gt9218868437227405312 : goal.returns-then-unsigned-gt9218868437227405312

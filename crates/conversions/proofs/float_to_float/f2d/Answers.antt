@@ -7,7 +7,6 @@ use lib.Ieee.Fits.{fits_widens}
 use lib.Ieee.Bits.{of_bits-fits, to_bits-lt}
 use Rattle.conversions.proofs.RoundedBits.{to_bits_nan}
 use Rattle.conversions.proofs.Fields.{of_plus, of_minus, bits_nan, fields_negative}
-use borrow.Author.Rules.{rules}
 use Rattle.conversions.proofs.float_to_float.f2d.Goals as goal
 
 pub returns-then-unsigned-gt2139095040 : goal.returns-then-unsigned-gt2139095040

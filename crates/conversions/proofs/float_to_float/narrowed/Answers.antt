@@ -4,7 +4,6 @@ use Prim.Native.Nat.{ℕ, ◌+◌, ◌-◌, ◌*◌, ◌^◌, ◌≤◌, min}
 use native.Mathlib.Nat.{le_of_lt, min-eq_left, min-eq_right}
 use native.Mathlib.Omega.{arith}
 use Rattle.conversions.proofs.Narrowing.{Narrow, narrow_zero, narrow_subnormal, narrow_normal, narrow_inf, subnormal_le, normal_le}
-use borrow.Author.Rules.{rules}
 use Rattle.conversions.proofs.float_to_float.narrowed.Goals as goal
 
 pub returns-then-exponent-lt863 : goal.returns-then-exponent-lt863

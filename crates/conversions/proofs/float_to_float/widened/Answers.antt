@@ -6,7 +6,6 @@ use native.Mathlib.Omega.{arith}
 use lib.Dec.{lit≤}
 use lib.Count.{count_leading_zeros}
 use Rattle.conversions.proofs.Widening.{Wide, Moved, moved, wide_inf, wide_normal, wide_zero, wide_subnormal}
-use borrow.Author.Rules.{rules}
 use Rattle.conversions.proofs.float_to_float.widened.Goals as goal
 
 pub returns-then-exponent-eq255 : goal.returns-then-exponent-eq255

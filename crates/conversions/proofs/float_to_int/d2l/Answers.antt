@@ -3,7 +3,6 @@ use mathlib.Core.Path.{◌∙◌}
 use lib.Dec.{lit≤}
 use lib.Ieee.{binary64}
 use Rattle.conversions.proofs.Saturation.{cut_off}
-use borrow.Author.Rules.{rules}
 use Rattle.conversions.proofs.float_to_int.d2l.Goals as goal
 
 pub returns : goal.returns

@@ -7,7 +7,6 @@ use lib.Dec.{lit≤}
 use lib.Pow.{pow_pos, pow_mono}
 use lib.Ieee.{binary64}
 use Rattle.conversions.proofs.WholePart.{whole_subnormal, whole_normal, whole_inf, whole_nan}
-use borrow.Author.Rules.{rules}
 use Rattle.conversions.proofs.float_to_int.double_whole.Goals as goal
 
 pub returns-then-exponent-eq0 : goal.returns-then-exponent-eq0

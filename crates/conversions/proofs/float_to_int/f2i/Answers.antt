@@ -3,7 +3,6 @@ use mathlib.Core.Path.{◌∙◌}
 use lib.Dec.{lit≤}
 use lib.Ieee.{binary32}
 use Rattle.conversions.proofs.Saturation.{cut_off}
-use borrow.Author.Rules.{rules}
 use Rattle.conversions.proofs.float_to_int.f2i.Goals as goal
 
 pub returns : goal.returns

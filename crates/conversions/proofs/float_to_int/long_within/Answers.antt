@@ -3,7 +3,6 @@ use mathlib.Core.Path.{◌≡◌, ◌∙◌}
 use Prim.Native.Nat.{◌-◌, ◌^◌}
 use native.Mathlib.Omega.{arith}
 use Rattle.conversions.proofs.Saturation.{minus_zero, minus_inside, minus_end, plus_inside, plus_end}
-use borrow.Author.Rules.{rules}
 use Rattle.conversions.proofs.float_to_int.long_within.Goals as goal
 
 pub returns-then-size-eq0 : goal.returns-then-size-eq0

@@ -4,7 +4,6 @@ use native.Mathlib.Nat.{mod-eq_of_lt, lt_of_lt_of_le}
 use lib.Dec.{lit≤}
 use lib.Count.{leading_le}
 use Rattle.conversions.proofs.WholePart.{scaled_down, scaled_away, scaled_lt, scaled_up, scaled_over}
-use borrow.Author.Rules.{rules}
 use Rattle.conversions.proofs.float_to_int.scaled.Goals as goal
 
 pub overflow_shl-result : goal.overflow_shl-result

@@ -8,7 +8,6 @@ use lib.Count.{leading_le}
 use lib.Ieee.{binary64, to_bits, round}
 use Rattle.conversions.proofs.LeadingZeros.{zeros_lt}
 use Rattle.conversions.proofs.Integers.{kept_le, magnitude_bits}
-use borrow.Author.Rules.{rules}
 use Rattle.conversions.proofs.int_to_float.double_nearest.Goals as goal
 
 pub returns-then-n-eq0 : goal.returns-then-n-eq0

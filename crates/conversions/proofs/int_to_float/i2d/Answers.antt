@@ -4,7 +4,6 @@ use native.Mathlib.Omega.{arith}
 use lib.Ieee.{binary64}
 use Rattle.conversions.proofs.SignBit.{round_sign_lt}
 use Rattle.conversions.proofs.Integers.{not_negative, negative}
-use borrow.Author.Rules.{rules}
 use Rattle.conversions.proofs.int_to_float.i2d.Goals as goal
 
 pub overflow_add-result : goal.overflow_add-result

@@ -5,7 +5,6 @@ use native.Mathlib.Nat.{mod-lt, le_of_lt}
 use native.Mathlib.Omega.{arith}
 use lib.Ieee.Nearest.{closest}
 use Rattle.conversions.proofs.Quotients.{unit_is, unit_pos, room_above, rounded_down, rounded_up, rounded_even}
-use borrow.Author.Rules.{rules}
 use Rattle.conversions.proofs.rounding.nearest_quotient.Goals as goal
 
 pub nonzero_div-quotient : goal.nonzero_div-quotient

@@ -3,7 +3,6 @@ use mathlib.Core.Path.{sym, ap, ◌∙◌}
 use native.Mathlib.Omega.{arith}
 use Rattle.rules.specs.Descriptor.{return_letter}
 use Rattle.descriptor.proofs.Promise.{unopened, some_bytes, over, unclosed, return_within, more_or_less, accepted}
-use borrow.Author.Rules.{rules}
 use Rattle.descriptor.proofs.descriptors.read_descriptor.Goals as goal
 
 pub returns-then-read_code_u8-ne-OPENING : goal.returns-then-read_code_u8-ne-OPENING

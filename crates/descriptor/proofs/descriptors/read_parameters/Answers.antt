@@ -1,12 +1,10 @@
 -- `read_parameters` meets its contract. The loop's invariant: the places counted and those ahead are all. Assumes nothing.
-use Prim.Native.Nat.{◌-◌, ◌<◌}
+use Prim.Native.Nat.{◌<◌}
 use mathlib.Core.Path.{sym, ap, ◌∙◌}
 use native.Mathlib.Omega.{arith}
-use lib.ListN.{length}
-use borrow.Author.Rules.{rules}
 use Rattle.values.specs.Kinds.{places}
 use Rattle.rules.specs.Descriptor.{kind_of}
-use Rattle.descriptor.proofs.Turns.{Counting, counting_starts, forward, two_at_most, counting_goes_on, counted, counted_over}
+use Rattle.descriptor.proofs.Turns.{counting_starts, forward, two_at_most, counting_goes_on, counted, counted_over}
 use Rattle.descriptor.proofs.descriptors.read_parameters.Goals as goal
 
 pub loop-places-init : goal.loop-places-init

@@ -1,12 +1,7 @@
 -- `read_parameters` meets its contract. The loop's invariant: the places counted and those ahead are all. Assumes nothing.
-use Prim.Native.Nat.{◌-◌, ◌<◌}
-use mathlib.Core.Path.{sym, ap, ◌∙◌}
-use native.Mathlib.Omega.{arith}
+use Prim.Native.Nat.{◌-◌}
 use lib.ListN.{length}
-use borrow.Author.Rules.{rules}
-use Rattle.values.specs.Kinds.{places}
-use Rattle.rules.specs.Descriptor.{kind_of}
-use Rattle.descriptor.proofs.Turns.{Counting, counting_starts, forward, two_at_most, counting_goes_on, counted, counted_over}
+use Rattle.descriptor.proofs.Turns.{Counting}
 use Rattle.descriptor.proofs.descriptors.read_parameters.Given as goal
 
 abbrev pub invariant-loop-places : goal.invariant-loop-places
@@ -14,4 +9,3 @@ invariant-loop-places l = Counting l.d l.at l.places
 
 abbrev pub decreases-loop-places : goal.decreases-loop-places
 decreases-loop-places l = length l.d - l.at
-

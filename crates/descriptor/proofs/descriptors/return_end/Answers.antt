@@ -1,6 +1,5 @@
 -- `return_end` meets its contract. Assumes nothing.
 use borrow.Author.Tests.{eq-eqb, ne_eqb}
-use borrow.Author.Rules.{rules}
 use Rattle.descriptor.proofs.descriptors.return_end.Goals as goal
 
 pub returns-then-read_code_u8-eq-VOID : goal.returns-then-read_code_u8-eq-VOID

@@ -1,6 +1,5 @@
 -- `return_letter` meets its contract. Assumes nothing.
 use borrow.Author.Tests.{eq-eqb, ne_eqb}
-use borrow.Author.Rules.{rules}
 use Rattle.descriptor.proofs.descriptors.return_letter.Goals as goal
 
 pub returns-then-first-eq-ARRAY : goal.returns-then-first-eq-ARRAY

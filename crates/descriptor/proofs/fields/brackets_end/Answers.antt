@@ -1,11 +1,9 @@
 -- `brackets_end` meets its contract. The loop's invariant: what is left to pass gives what all brackets give. Assumes nothing.
-use Prim.Native.Nat.{◌-◌, ◌≤◌}
-use mathlib.Core.Path.{◌≡◌, refl, sym, ◌∙◌}
+use Prim.Native.Nat.{◌-◌}
+use mathlib.Core.Path.{refl, sym, ◌∙◌}
 use native.Mathlib.Omega.{arith}
-use lib.ListN.{length}
 use borrow.Author.Rules.{rules}
 use borrow.Author.Tests.{ne_eqb}
-use Rattle.rules.specs.Descriptor.{brackets_end}
 use Rattle.rules.proofs.Fields.{no_bracket}
 use Rattle.descriptor.proofs.Turns.{bracket_within, bracket_passed, brackets_done}
 use Rattle.descriptor.proofs.fields.brackets_end.Goals as goal

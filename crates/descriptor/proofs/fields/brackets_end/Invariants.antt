@@ -1,13 +1,8 @@
 -- `brackets_end` meets its contract. The loop's invariant: what is left to pass gives what all brackets give. Assumes nothing.
 use Prim.Native.Nat.{◌-◌, ◌≤◌}
-use mathlib.Core.Path.{◌≡◌, refl, sym, ◌∙◌}
-use native.Mathlib.Omega.{arith}
+use mathlib.Core.Path.{◌≡◌}
 use lib.ListN.{length}
-use borrow.Author.Rules.{rules}
-use borrow.Author.Tests.{ne_eqb}
 use Rattle.rules.specs.Descriptor.{brackets_end}
-use Rattle.rules.proofs.Fields.{no_bracket}
-use Rattle.descriptor.proofs.Turns.{bracket_within, bracket_passed, brackets_done}
 use Rattle.descriptor.proofs.fields.brackets_end.Given as goal
 
 abbrev pub invariant-loop-n : goal.invariant-loop-n
@@ -15,4 +10,3 @@ invariant-loop-n l = (l.at ≤ length l.d) × (l.n ≤ 255) × (brackets_end (25
 
 abbrev pub decreases-loop-n : goal.decreases-loop-n
 decreases-loop-n l = 255 - l.n
-

@@ -3,7 +3,6 @@ use native.Mathlib.Omega.{arith}
 use borrow.Author.Tests.{eq-eqb, ne_eqb}
 use Rattle.rules.specs.Descriptor.{element_end}
 use Rattle.rules.proofs.Standing.{inside}
-use borrow.Author.Rules.{rules}
 use Rattle.descriptor.proofs.fields.element_end.Goals as goal
 
 pub returns-then-is_base : goal.returns-then-is_base

@@ -1,7 +1,6 @@
 -- `field_end` meets its contract. Assumes nothing.
 use Rattle.rules.specs.Descriptor.{field_end}
 use Rattle.rules.proofs.Fields.{brackets_within}
-use borrow.Author.Rules.{rules}
 use Rattle.descriptor.proofs.fields.field_end.Goals as goal
 
 pub element_end-requires : goal.element_end-requires

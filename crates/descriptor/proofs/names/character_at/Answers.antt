@@ -1,5 +1,4 @@
 -- `character_at` meets its contract. Assumes nothing.
-use borrow.Author.Rules.{rules}
 use Rattle.descriptor.proofs.names.character_at.Goals as goal
 
 pub returns : goal.returns

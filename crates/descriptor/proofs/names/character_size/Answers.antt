@@ -1,6 +1,5 @@
 -- `character_size` meets its contract. Assumes nothing.
 use Rattle.rules.specs.Descriptor.{character_size}
-use borrow.Author.Rules.{rules}
 use Rattle.descriptor.proofs.names.character_size.Goals as goal
 
 pub returns-then-is_one_byte : goal.returns-then-is_one_byte

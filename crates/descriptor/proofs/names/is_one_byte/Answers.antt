@@ -1,5 +1,4 @@
 -- `is_one_byte` meets its contract. Assumes nothing.
-use borrow.Author.Rules.{rules}
 use Rattle.descriptor.proofs.names.is_one_byte.Goals as goal
 
 pub returns : goal.returns

@@ -1,5 +1,4 @@
 -- `is_three_bytes` meets its contract. Assumes nothing.
-use borrow.Author.Rules.{rules}
 use Rattle.descriptor.proofs.names.is_three_bytes.Goals as goal
 
 pub returns : goal.returns

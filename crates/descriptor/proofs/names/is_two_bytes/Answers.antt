@@ -1,5 +1,4 @@
 -- `is_two_bytes` meets its contract. Assumes nothing.
-use borrow.Author.Rules.{rules}
 use Rattle.descriptor.proofs.names.is_two_bytes.Goals as goal
 
 pub returns : goal.returns

@@ -1,11 +1,9 @@
 -- `name_end` meets its contract. The loop's invariant: what is left to read gives what the whole name gives. Assumes nothing.
-use Prim.Native.Nat.{◌-◌, ◌≤◌, ◌<◌}
-use mathlib.Core.Path.{◌≡◌, sym, ◌∙◌}
+use Prim.Native.Nat.{◌<◌}
+use mathlib.Core.Path.{sym, ◌∙◌}
 use native.Mathlib.Omega.{arith}
-use lib.ListN.{length}
 use borrow.Author.Rules.{rules}
-use Rattle.rules.specs.Descriptor.{name_end}
-use Rattle.rules.proofs.Names.{name_from, name_none, name_past, name_enough}
+use Rattle.rules.proofs.Names.{name_none, name_past, name_enough}
 use Rattle.descriptor.proofs.Turns.{next_within, ended, goes_on}
 use Rattle.descriptor.proofs.names.name_end.Goals as goal
 

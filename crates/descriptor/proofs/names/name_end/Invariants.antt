@@ -1,12 +1,9 @@
 -- `name_end` meets its contract. The loop's invariant: what is left to read gives what the whole name gives. Assumes nothing.
-use Prim.Native.Nat.{◌-◌, ◌≤◌, ◌<◌}
-use mathlib.Core.Path.{◌≡◌, sym, ◌∙◌}
-use native.Mathlib.Omega.{arith}
+use Prim.Native.Nat.{◌-◌, ◌≤◌}
+use mathlib.Core.Path.{◌≡◌}
 use lib.ListN.{length}
-use borrow.Author.Rules.{rules}
 use Rattle.rules.specs.Descriptor.{name_end}
-use Rattle.rules.proofs.Names.{name_from, name_none, name_past, name_enough}
-use Rattle.descriptor.proofs.Turns.{next_within, ended, goes_on}
+use Rattle.rules.proofs.Names.{name_from}
 use Rattle.descriptor.proofs.names.name_end.Given as goal
 
 abbrev pub invariant-loop-at : goal.invariant-loop-at
@@ -14,4 +11,3 @@ invariant-loop-at l = (l.at ≤ length l.d) × (name_from l.d l.at ≡ name_end 
 
 abbrev pub decreases-loop-at : goal.decreases-loop-at
 decreases-loop-at l = length l.d - l.at
-

@@ -1,6 +1,5 @@
 -- `past_slash` meets its contract. Assumes nothing.
 use borrow.Author.Tests.{eq-eqb, ne_eqb}
-use borrow.Author.Rules.{rules}
 use Rattle.descriptor.proofs.names.past_slash.Goals as goal
 
 pub returns-then-read_code_u8-eq-SLASH : goal.returns-then-read_code_u8-eq-SLASH

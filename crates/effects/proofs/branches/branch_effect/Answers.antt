@@ -6,7 +6,6 @@ use Rattle.effects.specs.Effects.{effect_at}
 use Rattle.effects.specs.Families.{branch_opcodes}
 use Rattle.effects.specs.declared.outcome.Effect.TheVariants.{Branch}
 use Rattle.effects.proofs.Families.{only_left}
-use borrow.Author.Rules.{rules}
 use Rattle.effects.proofs.branches.branch_effect.Goals as goal
 
 pub returns-in-153 : goal.returns-in-153

@@ -5,7 +5,6 @@ use mathlib.Core.Bool.{Bool, true, false, ◌&&◌, cond}
 use mathlib.Core.List.{List}
 use native.Mathlib.Omega.{arith}
 use lib.Dec.{leb, ltb, eqb}
-use borrow.Author.Rules.{rules}
 use borrow.Author.Tests.{le-leb, eq-eqb}
 use Rattle.instructions.specs.Table.{is_in}
 use Rattle.effects.specs.Families.{shared_opcodes, arithmetic_kind, int_opcodes, long_opcodes, float_opcodes, double_opcodes}

@@ -4,7 +4,6 @@ use mathlib.Core.Path.{refl, sym, ◌∙◌}
 use mathlib.Core.Bool.{Bool, not, ◌&&◌}
 use native.Mathlib.Omega.{arith}
 use lib.Dec.{leb, eqb}
-use borrow.Author.Rules.{rules}
 use borrow.Author.Tests.{le-leb, ne_eqb}
 use Rattle.rules.specs.Instructions.{row_of}
 use Rattle.effects.specs.Effects.{effect_at}

@@ -1,7 +1,6 @@
 -- `effect` meets its contract. Assumes nothing.
 use mathlib.Core.Path.{refl}
 use native.Mathlib.Omega.{arith}
-use borrow.Author.Rules.{rules}
 use Rattle.effects.specs.Families.{shared_opcodes, conversion_opcodes, comparison_opcodes}
 use Rattle.effects.proofs.Families.{from}
 use Rattle.effects.proofs.choice.effect.Goals as goal

@@ -3,7 +3,6 @@ use Rattle.rules.specs.Instructions.{row_of}
 use Rattle.effects.specs.Effects.{effect_at}
 use Rattle.effects.specs.Families.{comparison_opcodes}
 use Rattle.effects.proofs.Families.{only_left}
-use borrow.Author.Rules.{rules}
 use Rattle.effects.proofs.comparisons.comparison_effect.Goals as goal
 
 pub returns-in-148 : goal.returns-in-148

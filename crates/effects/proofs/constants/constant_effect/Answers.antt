@@ -6,7 +6,6 @@ use Rattle.rules.specs.Instructions.{row_of}
 use Rattle.effects.specs.Effects.{effect_at}
 use Rattle.effects.specs.Families.{constant_opcodes}
 use Rattle.effects.proofs.Families.{only_left}
-use borrow.Author.Rules.{rules}
 use Rattle.effects.proofs.constants.constant_effect.Goals as goal
 
 pub returns-in-0 : goal.returns-in-0

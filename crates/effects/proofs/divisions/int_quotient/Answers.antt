@@ -1,5 +1,4 @@
 -- `int_quotient` meets its contract. Assumes nothing.
-use borrow.Author.Rules.{rules}
 use borrow.Author.Tests.{ne_eqb}
 use Rattle.effects.proofs.divisions.int_quotient.Goals as goal
 

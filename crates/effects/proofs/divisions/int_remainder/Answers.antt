@@ -1,5 +1,4 @@
 -- `int_remainder` meets its contract. Assumes nothing.
-use borrow.Author.Rules.{rules}
 use borrow.Author.Tests.{ne_eqb}
 use Rattle.effects.proofs.divisions.int_remainder.Goals as goal
 

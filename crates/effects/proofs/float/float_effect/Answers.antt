@@ -3,7 +3,6 @@ use Rattle.rules.specs.Instructions.{row_of}
 use Rattle.effects.specs.Effects.{effect_at}
 use Rattle.effects.specs.Families.{float_opcodes}
 use Rattle.effects.proofs.Families.{only_left}
-use borrow.Author.Rules.{rules}
 use Rattle.effects.proofs.float.float_effect.Goals as goal
 
 pub returns-in-98 : goal.returns-in-98

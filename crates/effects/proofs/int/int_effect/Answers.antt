@@ -3,7 +3,6 @@ use Rattle.rules.specs.Instructions.{row_of}
 use Rattle.effects.specs.Effects.{effect_at}
 use Rattle.effects.specs.Families.{int_opcodes}
 use Rattle.effects.proofs.Families.{only_left}
-use borrow.Author.Rules.{rules}
 use Rattle.effects.proofs.int.int_effect.Goals as goal
 
 pub returns-in-96 : goal.returns-in-96

@@ -1,5 +1,4 @@
 -- `split` meets its contract. Assumes nothing.
-use borrow.Author.Rules.{rules}
 use Rattle.effects.proofs.outcome.split.Goals as goal
 
 pub returns : goal.returns

@@ -3,7 +3,6 @@ use Rattle.rules.specs.Instructions.{row_of}
 use Rattle.effects.specs.Effects.{effect_at}
 use Rattle.effects.specs.Families.{return_opcodes}
 use Rattle.effects.proofs.Families.{only_left}
-use borrow.Author.Rules.{rules}
 use Rattle.effects.proofs.returns.return_effect.Goals as goal
 
 pub returns-in-172 : goal.returns-in-172

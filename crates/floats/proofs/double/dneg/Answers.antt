@@ -1,6 +1,5 @@
 -- `dneg` meets its contract: the sign is the bit of weight 2 ^ 63. Assumes nothing.
 use Rattle.floats.proofs.Flipped.{bit_added, bit_removed}
-use borrow.Author.Rules.{rules}
 use Rattle.floats.proofs.double.dneg.Goals as goal
 
 pub returns-then-a-lt9223372036854775808 : goal.returns-then-a-lt9223372036854775808

@@ -1,7 +1,6 @@
 -- `double_word` meets its contract: what differs from itself is the NaN, and any other has its own word. Assumes nothing.
 use lib.Ieee.{binary64, to_bits}
 use Rattle.floats.proofs.NaNs.{nan_stored, number}
-use borrow.Author.Rules.{rules}
 use Rattle.floats.proofs.double.double_word.Goals as goal
 
 pub float_to_bits-result : goal.float_to_bits-result

@@ -1,6 +1,5 @@
 -- `fcmpl` meets its contract: the three tests at what the words mean. Assumes nothing.
 use Rattle.values.specs.Integers.{signed}
-use borrow.Author.Rules.{rules}
 use Rattle.floats.proofs.single.fcmpl.Goals as goal
 
 pub returns : goal.returns

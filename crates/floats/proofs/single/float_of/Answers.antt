@@ -2,7 +2,6 @@
 use mathlib.Core.Path.{sym, ◌∙◌}
 use lib.Ieee.{binary32}
 use Rattle.floats.proofs.NaNs.{zero_over_zero, nan_word, number_word}
-use borrow.Author.Rules.{rules}
 use Rattle.floats.proofs.single.float_of.Goals as goal
 
 pub float_from_bits-result : goal.float_from_bits-result

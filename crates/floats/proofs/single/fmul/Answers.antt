@@ -1,5 +1,4 @@
 -- `fmul` meets its contract: what the converters and the operation between them give. Assumes nothing.
-use borrow.Author.Rules.{rules}
 use Rattle.floats.proofs.single.fmul.Goals as goal
 
 pub returns : goal.returns

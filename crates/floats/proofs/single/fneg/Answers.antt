@@ -1,6 +1,5 @@
 -- `fneg` meets its contract: the sign is the bit of weight 2 ^ 31. Assumes nothing.
 use Rattle.floats.proofs.Flipped.{bit_added, bit_removed}
-use borrow.Author.Rules.{rules}
 use Rattle.floats.proofs.single.fneg.Goals as goal
 
 pub returns-then-a-lt2147483648 : goal.returns-then-a-lt2147483648

@@ -1,6 +1,5 @@
 -- `local_there` meets its contract. Assumes nothing.
 use borrow.Author.Tests.{eq-eqb, ne_eqb}
-use borrow.Author.Rules.{rules}
 use Rattle.frame.proofs.places.local_there.Goals as goal
 
 pub returns-then-places-eq0 : goal.returns-then-places-eq0

@@ -3,7 +3,6 @@ use mathlib.Core.Path.{sym, ◌∙◌}
 use borrow.Author.Tests.{le-leb, lt-leb, not-true, not-false}
 use Rattle.rules.specs.Check.{◌else◌, ◌>>◌}
 use Rattle.frame.specs.Place.{place_check, place_of}
-use borrow.Author.Rules.{rules}
 use Rattle.frame.proofs.places.place.Goals as goal
 
 pub returns-then-s-pops : goal.returns-then-s-pops

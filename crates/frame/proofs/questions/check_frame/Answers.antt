@@ -2,7 +2,6 @@
 use mathlib.Core.Path.{sym, ap}
 use Rattle.rules.proofs.Questions.{unpaired, long_pool, no_room, no_code, long_code, outside, too_deep, frame_passed}
 use Rattle.rules.specs.Answers.{checked}
-use borrow.Author.Rules.{rules}
 use Rattle.frame.proofs.questions.check_frame.Goals as goal
 
 pub returns-then-kinds-words : goal.returns-then-kinds-words

@@ -5,7 +5,6 @@ use native.Mathlib.Omega.{arith}
 use lib.Seq.{paste}
 use Rattle.rules.specs.Step.{update_words}
 use Rattle.frame.proofs.Parts.{paste_part}
-use borrow.Author.Rules.{rules}
 use Rattle.frame.proofs.slots.commit.Goals as goal
 
 pub returns : goal.returns

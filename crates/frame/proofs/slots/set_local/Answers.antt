@@ -1,6 +1,5 @@
 -- `set_local` meets its contract. Assumes nothing.
 use Rattle.frame.proofs.Parts.{one_written}
-use borrow.Author.Rules.{rules}
 use Rattle.frame.proofs.slots.set_local.Goals as goal
 
 pub returns : goal.returns

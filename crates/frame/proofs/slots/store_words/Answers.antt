@@ -1,5 +1,4 @@
 -- `store_words` meets its contract. Assumes nothing.
-use borrow.Author.Rules.{rules}
 use Rattle.frame.proofs.slots.store_words.Goals as goal
 
 pub returns-then-u-eq1 : goal.returns-then-u-eq1

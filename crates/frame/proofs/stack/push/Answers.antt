@@ -1,6 +1,5 @@
 -- `push` meets its contract. Assumes nothing.
 use Rattle.frame.proofs.Parts.{one_written}
-use borrow.Author.Rules.{rules}
 use Rattle.frame.proofs.stack.push.Goals as goal
 
 pub returns : goal.returns

@@ -1,5 +1,4 @@
 -- `push_words` meets its contract. Assumes nothing.
-use borrow.Author.Rules.{rules}
 use Rattle.frame.proofs.stack.push_words.Goals as goal
 
 pub returns-then-u-eq1 : goal.returns-then-u-eq1

@@ -2,7 +2,6 @@
 use native.Mathlib.Omega.{arith}
 use lib.ListN.{length-set}
 use Rattle.frame.proofs.Parts.{two_written}
-use borrow.Author.Rules.{rules}
 use Rattle.frame.proofs.words.write_two.Goals as goal
 
 pub bounds-target-at-2 : goal.bounds-target-at-2

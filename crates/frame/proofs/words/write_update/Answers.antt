@@ -1,5 +1,4 @@
 -- `write_update` meets its contract. Assumes nothing.
-use borrow.Author.Rules.{rules}
 use Rattle.frame.proofs.words.write_update.Goals as goal
 
 pub returns-then-u-eq2 : goal.returns-then-u-eq2

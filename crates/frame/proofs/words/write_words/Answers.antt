@@ -1,11 +1,10 @@
 -- `write_words` meets its contract. The loop's invariant: the first j words have been written. The measure is what is left of n. Assumes nothing.
-use Prim.Native.Nat.{◌+◌, ◌-◌, ◌≤◌, ◌<◌}
+use Prim.Native.Nat.{◌+◌, ◌<◌}
 use mathlib.Core.Path.{◌≡◌, refl}
 use native.Mathlib.Omega.{arith}
 use native.Mathlib.Numerals.{add-one}
 use lib.ListN.{length, length-set}
-use lib.Seq.{paste, paste-zero, paste-suc}
-use borrow.Author.Rules.{rules}
+use lib.Seq.{paste-zero, paste-suc}
 use Rattle.frame.proofs.words.write_words.Goals as goal
 
 pub loop-j-init : goal.loop-j-init

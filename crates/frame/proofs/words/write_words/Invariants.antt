@@ -1,11 +1,8 @@
 -- `write_words` meets its contract. The loop's invariant: the first j words have been written. The measure is what is left of n. Assumes nothing.
-use Prim.Native.Nat.{◌+◌, ◌-◌, ◌≤◌, ◌<◌}
-use mathlib.Core.Path.{◌≡◌, refl}
-use native.Mathlib.Omega.{arith}
-use native.Mathlib.Numerals.{add-one}
-use lib.ListN.{length, length-set}
-use lib.Seq.{paste, paste-zero, paste-suc}
-use borrow.Author.Rules.{rules}
+use Prim.Native.Nat.{◌-◌, ◌≤◌}
+use mathlib.Core.Path.{◌≡◌}
+use lib.ListN.{length}
+use lib.Seq.{paste}
 use Rattle.frame.proofs.words.write_words.Given as goal
 
 abbrev pub invariant-loop-j : goal.invariant-loop-j
@@ -13,4 +10,3 @@ invariant-loop-j l = (l.j ≤ l.n) × (l.target ≡ paste l.initial.target l.at 
 
 abbrev pub decreases-loop-j : goal.decreases-loop-j
 decreases-loop-j l = l.n - l.j
-

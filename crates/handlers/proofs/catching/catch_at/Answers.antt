@@ -4,7 +4,6 @@ use mathlib.Core.Path.{sym, ap}
 use native.Mathlib.Omega.{arith}
 use Rattle.rules.specs.Step.{decision}
 use Rattle.rules.proofs.Handlers.{no_room_to_catch, handler_outside, caught_step}
-use borrow.Author.Rules.{rules}
 use Rattle.handlers.proofs.catching.catch_at.Goals as goal
 
 pub returns-then-s-eq0 : goal.returns-then-s-eq0

@@ -1,10 +1,10 @@
 -- `find_handler` meets its contract. The invariant: the entries that are left give what all of them give. Assumes nothing.
-use Prim.Native.Nat.{ℕ, ◌+◌, ◌*◌, ◌/◌, ◌≤◌}
+use Prim.Native.Nat.{ℕ}
 use mathlib.Core.Path.{◌≡◌, refl, sym, ap, ◌∙◌}
 use native.Mathlib.Omega.{arith}
 use native.Mathlib.Nat.{div-mul-le_self}
 use lib.ListN.{length}
-use Rattle.rules.specs.Handlers.{handler_from, handler_at}
+use Rattle.rules.specs.Handlers.{handler_from}
 use Rattle.handlers.specs.Found.{found}
 use Rattle.rules.proofs.Handlers.{caught_here, not_here}
 use Rattle.handlers.proofs.entries.find_handler.Goals as goal

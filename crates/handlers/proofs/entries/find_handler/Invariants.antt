@@ -1,12 +1,8 @@
 -- `find_handler` meets its contract. The invariant: the entries that are left give what all of them give. Assumes nothing.
-use Prim.Native.Nat.{ℕ, ◌+◌, ◌*◌, ◌/◌, ◌≤◌}
-use mathlib.Core.Path.{◌≡◌, refl, sym, ap, ◌∙◌}
-use native.Mathlib.Omega.{arith}
-use native.Mathlib.Nat.{div-mul-le_self}
+use Prim.Native.Nat.{◌+◌, ◌*◌, ◌≤◌}
+use mathlib.Core.Path.{◌≡◌}
 use lib.ListN.{length}
 use Rattle.rules.specs.Handlers.{handler_from, handler_at}
-use Rattle.handlers.specs.Found.{found}
-use Rattle.rules.proofs.Handlers.{caught_here, not_here}
 use Rattle.handlers.proofs.entries.find_handler.Given as goal
 
 abbrev pub invariant-loop-left : goal.invariant-loop-left
@@ -14,4 +10,3 @@ invariant-loop-left l = (l.at + 12 * l.left ≤ length l.handlers) × (handler_f
 
 abbrev pub decreases-loop-left : goal.decreases-loop-left
 decreases-loop-left l = l.left
-

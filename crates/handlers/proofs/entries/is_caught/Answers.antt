@@ -1,7 +1,6 @@
 -- `is_caught` meets its contract. Assumes nothing.
 use borrow.Author.Tests.{not-true, not-false}
 use Rattle.rules.specs.Handlers.{catches}
-use borrow.Author.Rules.{rules}
 use Rattle.handlers.proofs.entries.is_caught.Goals as goal
 
 pub returns-then-not-is_covered : goal.returns-then-not-is_covered

@@ -1,7 +1,6 @@
 -- `is_covered` meets its contract. Assumes nothing.
 use borrow.Author.Tests.{le-leb, lt-leb}
 use Rattle.rules.specs.Handlers.{covers}
-use borrow.Author.Rules.{rules}
 use Rattle.handlers.proofs.entries.is_covered.Goals as goal
 
 pub returns-then-pc-read_code_u16 : goal.returns-then-pc-read_code_u16

@@ -2,7 +2,6 @@
 use lib.ListN.{get_or-eq_default}
 use borrow.Author.Tests.{eq-eqb, ne_eqb}
 use Rattle.rules.specs.Handlers.{takes}
-use borrow.Author.Rules.{rules}
 use Rattle.handlers.proofs.entries.is_taken.Goals as goal
 
 pub returns-then-catch_type-eq0 : goal.returns-then-catch_type-eq0

@@ -1,5 +1,4 @@
 -- `long_answer` meets its contract. Assumes nothing.
-use borrow.Author.Rules.{rules}
 use Rattle.history.proofs.answer_words.long_answer.Goals as goal
 
 pub returns : goal.returns

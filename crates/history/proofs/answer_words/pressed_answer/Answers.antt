@@ -1,5 +1,4 @@
 -- `pressed_answer` meets its contract. Assumes nothing.
-use borrow.Author.Rules.{rules}
 use Rattle.history.proofs.answer_words.pressed_answer.Goals as goal
 
 pub returns-in-Granted : goal.returns-in-Granted

@@ -1,5 +1,4 @@
 -- `value_answer` meets its contract. Assumes nothing.
-use borrow.Author.Rules.{rules}
 use Rattle.history.proofs.answer_words.value_answer.Goals as goal
 
 pub returns-in-Void : goal.returns-in-Void

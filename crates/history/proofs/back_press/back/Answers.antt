@@ -4,7 +4,6 @@ use mathlib.Core.Path.{sym, ◌∙◌}
 use mathlib.Core.List.{[]}
 use Rattle.rules.proofs.Answers.{row_passed, row_refused}
 use Rattle.rules.proofs.History.{back_by_lem, back_passed}
-use borrow.Author.Rules.{rules}
 use Rattle.history.proofs.back_press.back.Goals as goal
 
 pub restore-state-requires : goal.restore-state-requires

@@ -10,7 +10,6 @@ use Rattle.rules.specs.History.{entry_at, entry_check}
 use Rattle.rules.proofs.Check.{is_passed_lem}
 use Rattle.rules.proofs.History.{not_sound, back_frame, back_first, back_short, back_entry}
 use Rattle.rules.proofs.Answers.{row_passed, row_refused}
-use borrow.Author.Rules.{rules}
 use Rattle.history.proofs.back_press.check_back.Goals as goal
 
 pub returns-in_default : goal.returns-in_default

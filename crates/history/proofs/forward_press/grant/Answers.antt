@@ -1,7 +1,6 @@
 -- `grant` meets its contract. Assumes nothing.
 use native.Mathlib.Omega.{arith}
 use Rattle.rules.proofs.History.{with_room, without_room}
-use borrow.Author.Rules.{rules}
 use Rattle.history.proofs.forward_press.grant.Goals as goal
 
 pub returns-then-entries-s : goal.returns-then-entries-s

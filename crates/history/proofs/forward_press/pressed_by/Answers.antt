@@ -1,5 +1,4 @@
 -- `pressed_by` meets its contract. Assumes nothing.
-use borrow.Author.Rules.{rules}
 use Rattle.history.proofs.forward_press.pressed_by.Goals as goal
 
 pub returns-in-Return : goal.returns-in-Return

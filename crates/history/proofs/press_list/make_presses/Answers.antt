@@ -1,10 +1,9 @@
 -- `make_presses` meets its contract. The loop's invariant is `Replaying`; the measure is what is left of the list. Assumes nothing.
 use native.Mathlib.Omega.{arith}
 use Rattle.rules.specs.Step.{machine}
-use Prim.Native.Nat.{◌+◌, ◌-◌, ◌*◌, ◌≤◌}
+use Prim.Native.Nat.{◌+◌, ◌*◌, ◌≤◌}
 use lib.ListN.{length}
-use Rattle.rules.proofs.Replay.{Replaying, begins, one_more, all_made}
-use borrow.Author.Rules.{rules}
+use Rattle.rules.proofs.Replay.{begins, one_more, all_made}
 use Rattle.history.proofs.press_list.make_presses.Goals as goal
 
 pub loop-i-init : goal.loop-i-init

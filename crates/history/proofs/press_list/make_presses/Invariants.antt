@@ -1,10 +1,8 @@
 -- `make_presses` meets its contract. The loop's invariant is `Replaying`; the measure is what is left of the list. Assumes nothing.
-use native.Mathlib.Omega.{arith}
 use Rattle.rules.specs.Step.{machine}
-use Prim.Native.Nat.{◌+◌, ◌-◌, ◌*◌, ◌≤◌}
+use Prim.Native.Nat.{◌-◌}
 use lib.ListN.{length}
-use Rattle.rules.proofs.Replay.{Replaying, begins, one_more, all_made}
-use borrow.Author.Rules.{rules}
+use Rattle.rules.proofs.Replay.{Replaying}
 use Rattle.history.proofs.press_list.make_presses.Given as goal
 
 abbrev pub invariant-loop-i : goal.invariant-loop-i
@@ -12,4 +10,3 @@ invariant-loop-i l = Replaying (machine l.code l.kinds l.words l.handlers) l.byt
 
 abbrev pub decreases-loop-i : goal.decreases-loop-i
 decreases-loop-i l = length l.bytes - l.i
-

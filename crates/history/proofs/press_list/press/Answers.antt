@@ -1,7 +1,6 @@
 -- `press` meets its contract. Assumes nothing.
 use Rattle.rules.proofs.Replay.{forward_byte}
 use Rattle.rules.specs.Walk.{press_of}
-use borrow.Author.Rules.{rules}
 use Rattle.history.proofs.press_list.press.Goals as goal
 
 pub returns-then-byte-eq0 : goal.returns-then-byte-eq0

@@ -3,7 +3,6 @@ use native.Mathlib.Omega.{arith}
 use Rattle.rules.specs.Questions.{method}
 use mathlib.Core.Path.{refl}
 use Rattle.history.proofs.Replays.{made, too_short}
-use borrow.Author.Rules.{rules}
 use Rattle.history.proofs.press_list.presses.Goals as goal
 
 pub returns-then-answers-bytes : goal.returns-then-answers-bytes

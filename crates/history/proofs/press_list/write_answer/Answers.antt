@@ -1,5 +1,4 @@
 -- `write_answer` meets its contract. Assumes nothing.
-use borrow.Author.Rules.{rules}
 use Rattle.history.proofs.press_list.write_answer.Goals as goal
 
 pub returns : goal.returns

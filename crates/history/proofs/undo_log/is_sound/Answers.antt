@@ -1,6 +1,5 @@
 -- `is_sound` meets its contract. Assumes nothing.
 use Rattle.history.proofs.Entries.{outside, too_deep, too_many, no_places, some_places}
-use borrow.Author.Rules.{rules}
 use Rattle.history.proofs.undo_log.is_sound.Goals as goal
 
 pub returns-then-code-entry : goal.returns-then-code-entry

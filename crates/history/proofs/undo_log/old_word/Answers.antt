@@ -1,6 +1,5 @@
 -- `old_word` meets its contract. Assumes nothing.
 use Rattle.history.proofs.Entries.{old_there, old_beyond}
-use borrow.Author.Rules.{rules}
 use Rattle.history.proofs.undo_log.old_word.Goals as goal
 
 pub returns-then-i-many : goal.returns-then-i-many

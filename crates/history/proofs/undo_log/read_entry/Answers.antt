@@ -1,5 +1,4 @@
 -- `read_entry` meets its contract. Assumes nothing.
-use borrow.Author.Rules.{rules}
 use Rattle.history.proofs.undo_log.read_entry.Goals as goal
 
 pub returns : goal.returns

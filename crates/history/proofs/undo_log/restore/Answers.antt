@@ -7,7 +7,6 @@ use lib.ListN.{length, drop, length-drop}
 use native.Mathlib.Omega.{arith}
 use Rattle.rules.specs.History.{entry_at}
 use Rattle.history.proofs.Entries.{rest, first_read, many_read, nothing_back, words_back}
-use borrow.Author.Rules.{rules}
 use Rattle.history.proofs.undo_log.restore.Goals as goal
 
 pub returns-then-many-eq0 : goal.returns-then-many-eq0

@@ -5,7 +5,6 @@ use mathlib.Core.List.{List, ◌∷◌}
 use lib.Seq.{paste}
 use Rattle.rules.specs.History.{entry_at}
 use Rattle.history.proofs.Entries.{six}
-use borrow.Author.Rules.{rules}
 use Rattle.history.proofs.undo_log.write_entry.Goals as goal
 
 pub returns : goal.returns

@@ -7,7 +7,6 @@ use Rattle.rules.specs.Instructions.{row_of}
 use Rattle.instructions.specs.Table.{entry_of, length_in, format_in}
 use Rattle.instructions.specs.Stages.{switch_decoded}
 use Rattle.instructions.proofs.Fetching.{here, no_instruction, wide_instruction, table_instruction, lookup_instruction, fixed_instruction}
-use borrow.Author.Rules.{rules}
 use Rattle.instructions.proofs.decoding.decode.Goals as goal
 
 -- the entry that was read, its length and its format

@@ -5,7 +5,6 @@ use borrow.Author.Tests.{lt-ltb, le-ltb, eq-eqb, ne_eqb}
 use Rattle.values.specs.Integers.{signed, low}
 use Rattle.values.proofs.LowBits.{low_word}
 use Rattle.instructions.specs.Stages.{fields_of}
-use borrow.Author.Rules.{rules}
 use Rattle.instructions.proofs.decoding.operand_fields.Goals as goal
 
 pub returns-then-format-eq-FORMAT_ALONE : goal.returns-then-format-eq-FORMAT_ALONE

@@ -1,7 +1,6 @@
 -- `sized` meets its contract. Assumes nothing.
 use borrow.Author.Tests.{le-leb, lt-leb}
 use Rattle.instructions.specs.Stages.{sized_of}
-use borrow.Author.Rules.{rules}
 use Rattle.instructions.proofs.decoding.sized.Goals as goal
 
 pub returns-then-code-pc : goal.returns-then-code-pc

@@ -1,5 +1,4 @@
 -- `switched` meets its contract. Assumes nothing.
-use borrow.Author.Rules.{rules}
 use Rattle.instructions.proofs.decoding.switched.Goals as goal
 
 pub returns-in-Accepted : goal.returns-in-Accepted

@@ -4,14 +4,13 @@ use mathlib.Core.Bool.{Bool, true}
 use mathlib.Core.Path.{◌≡◌, sym, ap, ◌∙◌}
 use mathlib.Core.List.{List}
 use native.Mathlib.Omega.{arith}
-use borrow.Author.Tests.{not-true, not-false}
+use borrow.Author.Tests.{not-true}
 use Rattle.rules.specs.Instructions.{row_of}
 use Rattle.rules.specs.Fetch.{widens, wide_opcode}
 use Rattle.rules.proofs.Questions.{wide_cut, wide_not_allowed}
 use Rattle.instructions.specs.Table.{entry_of, length_in}
 use Rattle.instructions.specs.Decode.{decoded}
 use Rattle.instructions.proofs.Fetching.{wide_increment, wide_other}
-use borrow.Author.Rules.{rules}
 use Rattle.instructions.proofs.decoding.wide.Goals as goal
 
 -- what is known once the length is read

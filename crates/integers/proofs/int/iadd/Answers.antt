@@ -1,5 +1,5 @@
 -- `iadd` meets its contract. Assumes nothing.
-use Rattle.std.proofs.Common.{◌∙◌, rules}
+use Rattle.std.proofs.Common.{◌∙◌}
 use Rattle.integers.proofs.Sums.{sum}
 use Rattle.integers.proofs.int.iadd.Goals as goal
 

@@ -1,5 +1,4 @@
 -- `imul` meets its contract. Assumes nothing.
-use Rattle.std.proofs.Common.{rules}
 use Rattle.integers.proofs.Product.{product_lt}
 use Rattle.integers.proofs.Sums.{product}
 use Rattle.integers.proofs.int.imul.Goals as goal

@@ -1,5 +1,5 @@
 -- `irem` meets its contract. Assumes nothing.
-use Rattle.std.proofs.Common.{◌∙◌, arith, rules}
+use Rattle.std.proofs.Common.{◌∙◌, arith}
 use Rattle.integers.proofs.Division.{rem_plus, rem_minus, divisor}
 use Rattle.integers.proofs.int.irem.Goals as goal
 

@@ -1,5 +1,5 @@
 -- `ladd` meets its contract. Assumes nothing.
-use Rattle.std.proofs.Common.{◌∙◌, rules}
+use Rattle.std.proofs.Common.{◌∙◌}
 use Rattle.integers.proofs.Sums.{sum}
 use Rattle.integers.proofs.long.ladd.Goals as goal
 

@@ -1,5 +1,5 @@
 -- `ldiv` meets its contract. Assumes nothing.
-use Rattle.std.proofs.Common.{◌∙◌, arith, rules}
+use Rattle.std.proofs.Common.{◌∙◌, arith}
 use Rattle.integers.proofs.Division.{quot_plus_plus, quot_minus_minus, quot_plus_minus, quot_minus_plus, divisor}
 use Rattle.integers.proofs.long.ldiv.Goals as goal
 

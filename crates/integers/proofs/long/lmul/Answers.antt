@@ -1,5 +1,5 @@
 -- `lmul` meets its contract. Assumes nothing.
-use Rattle.std.proofs.Common.{◌∙◌, rules}
+use Rattle.std.proofs.Common.{◌∙◌}
 use Rattle.integers.proofs.Sums.{product}
 use Rattle.integers.proofs.long.lmul.Goals as goal
 

@@ -1,5 +1,5 @@
 -- `lneg` meets its contract. Assumes nothing.
-use Rattle.std.proofs.Common.{◌∙◌, rules}
+use Rattle.std.proofs.Common.{◌∙◌}
 use Rattle.integers.proofs.Sums.{negative}
 use Rattle.integers.proofs.long.lneg.Goals as goal
 

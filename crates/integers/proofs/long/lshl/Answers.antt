@@ -1,5 +1,5 @@
 -- `lshl` meets its contract. Assumes nothing.
-use Rattle.std.proofs.Common.{ℕ, ◌%◌, ◌^◌, pos, ◌*ℤ◌, sym, ap, ◌∙◌, mod-lt, lit≤, rules}
+use Rattle.std.proofs.Common.{ℕ, ◌%◌, ◌^◌, pos, ◌*ℤ◌, sym, ap, ◌∙◌, mod-lt, lit≤}
 use Rattle.values.proofs.LowBits.{low_signed}
 use Rattle.values.specs.Integers.{signed, low}
 use Rattle.integers.proofs.Shift.{shift_left}

@@ -1,5 +1,5 @@
 -- `lshr` meets its contract. Assumes nothing.
-use Rattle.std.proofs.Common.{◌≡◌, ℕ, suc, ◌-◌, ◌/◌, ◌%◌, ◌^◌, sym, ap, ◌∙◌, div-le_self, arith, lit≤, rules}
+use Rattle.std.proofs.Common.{◌≡◌, ℕ, suc, ◌-◌, ◌/◌, ◌%◌, ◌^◌, sym, ap, ◌∙◌, div-le_self, arith, lit≤}
 use lib.Signed.{shr_z}
 use Rattle.values.proofs.LowBits.{low_signed}
 use Rattle.values.specs.Integers.{signed, low}

@@ -1,5 +1,5 @@
 -- `lsub` meets its contract. Assumes nothing.
-use Rattle.std.proofs.Common.{◌≡◌, ◌+◌, ◌-◌, ◌%◌, ◌^◌, ◌∙◌, arith, rules}
+use Rattle.std.proofs.Common.{◌≡◌, ◌+◌, ◌-◌, ◌%◌, ◌^◌, ◌∙◌, arith}
 use Rattle.integers.proofs.Sums.{difference}
 use Rattle.integers.proofs.long.lsub.Goals as goal
 

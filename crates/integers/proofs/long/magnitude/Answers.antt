@@ -1,5 +1,5 @@
 -- `magnitude` of a long meets its contract. Assumes nothing.
-use Rattle.std.proofs.Common.{arith, rules}
+use Rattle.std.proofs.Common.{arith}
 use Rattle.integers.proofs.Division.{magnitude_plus, magnitude_minus}
 use Rattle.integers.proofs.long.magnitude.Goals as goal
 

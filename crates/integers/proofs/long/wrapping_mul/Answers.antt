@@ -1,5 +1,5 @@
 -- `wrapping_mul` meets its contract: the product by halves. Assumes nothing.
-use Rattle.std.proofs.Common.{ℕ, ◌+◌, ◌*◌, ◌%◌, ◌^◌, ap, ◌∙◌, mod-lt, pow_pos, shr_lt, rules}
+use Rattle.std.proofs.Common.{ℕ, ◌+◌, ◌*◌, ◌%◌, ◌^◌, ap, ◌∙◌, mod-lt, pow_pos, shr_lt}
 use Rattle.integers.proofs.Product.{product_lt, product_mod}
 use Rattle.integers.proofs.long.wrapping_mul.Goals as goal
 

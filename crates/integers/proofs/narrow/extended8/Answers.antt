@@ -1,5 +1,5 @@
 -- `extended8` meets its contract. Assumes nothing.
-use Rattle.std.proofs.Common.{arith, rules}
+use Rattle.std.proofs.Common.{arith}
 use Rattle.integers.proofs.Extend.{extend_plus, extend_minus}
 use Rattle.integers.proofs.narrow.extended8.Goals as goal
 

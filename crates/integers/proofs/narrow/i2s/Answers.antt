@@ -1,5 +1,5 @@
 -- `i2s` meets its contract. Assumes nothing.
-use Rattle.std.proofs.Common.{ℕ, sym, ap, ◌∙◌, lit≤, rules}
+use Rattle.std.proofs.Common.{ℕ, sym, ap, ◌∙◌, lit≤}
 use Rattle.values.proofs.LowBits.{low_signed}
 use Rattle.values.specs.Integers.{signed, low}
 use Rattle.integers.proofs.narrow.i2s.Goals as goal

@@ -1,5 +1,5 @@
 -- `l2i` meets its contract. Assumes nothing.
-use Rattle.std.proofs.Common.{sym, lit≤, rules}
+use Rattle.std.proofs.Common.{sym, lit≤}
 use Rattle.values.proofs.LowBits.{low_signed}
 use Rattle.integers.proofs.narrow.l2i.Goals as goal
 

@@ -1,5 +1,4 @@
 -- `lcmp` meets its contract. Assumes nothing.
-use Rattle.std.proofs.Common.{rules}
 use Rattle.values.specs.Integers.{low}
 use Rattle.integers.proofs.Comparison.{signed_lt}
 use Rattle.integers.proofs.order.lcmp.Goals as goal

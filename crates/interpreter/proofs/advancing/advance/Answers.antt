@@ -8,7 +8,6 @@ use Rattle.rules.specs.Questions.{method}
 use Rattle.interpreter.proofs.Answers.{by_frame}
 use Rattle.interpreter.proofs.Steps.{advance_other}
 use Rattle.interpreter.proofs.Plain.{bare_framed, without_handlers}
-use borrow.Author.Rules.{rules}
 use Rattle.interpreter.proofs.advancing.advance.Goals as goal
 
 pub advance_plain-requires : goal.advance_plain-requires

@@ -1,12 +1,9 @@
 -- `advance_plain` meets its contract. The loop's invariant is `Going`; the measure is how many steps are left. Assumes nothing.
-use Prim.Native.Nat.{◌-◌}
 use mathlib.Core.Path.{refl, sym, ap, ◌∙◌}
-use mathlib.Core.List.{[]}
 use native.Mathlib.Omega.{arith}
-use Rattle.rules.specs.Questions.{method}
 use Rattle.rules.proofs.Legal.{ordinary_legal}
 use Rattle.return_types.specs.Settled.{settled}
-use Rattle.interpreter.proofs.Steps.{Going, turn, ends_there, all_taken}
+use Rattle.interpreter.proofs.Steps.{turn, ends_there, all_taken}
 use borrow.Enum.Refused.{opened}
 use Rattle.interpreter.proofs.advancing.advance_plain.Goals as goal
 

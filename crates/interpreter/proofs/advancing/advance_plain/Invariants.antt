@@ -1,13 +1,8 @@
 -- `advance_plain` meets its contract. The loop's invariant is `Going`; the measure is how many steps are left. Assumes nothing.
 use Prim.Native.Nat.{◌-◌}
-use mathlib.Core.Path.{refl, sym, ap, ◌∙◌}
 use mathlib.Core.List.{[]}
-use native.Mathlib.Omega.{arith}
 use Rattle.rules.specs.Questions.{method}
-use Rattle.rules.proofs.Legal.{ordinary_legal}
-use Rattle.return_types.specs.Settled.{settled}
-use Rattle.interpreter.proofs.Steps.{Going, turn, ends_there, all_taken}
-use borrow.Author.Rules.{rules}
+use Rattle.interpreter.proofs.Steps.{Going}
 use Rattle.interpreter.proofs.advancing.advance_plain.Given as goal
 
 abbrev pub invariant-loop-u : goal.invariant-loop-u
@@ -15,4 +10,3 @@ invariant-loop-u l = Going (method l.code l.kinds l.words []) l.initial.slots l.
 
 abbrev pub decreases-loop-u : goal.decreases-loop-u
 decreases-loop-u l = l.most - l.steps
-

@@ -6,7 +6,6 @@ use Rattle.return_types.specs.Settled.{settled}
 use Rattle.interpreter.specs.Stages.{caught}
 use Rattle.interpreter.proofs.Plain.{caught_settled, decide_caught}
 use Rattle.interpreter.proofs.Answers.{by_frame}
-use borrow.Author.Rules.{rules}
 use Rattle.interpreter.proofs.deciding.decide.Goals as goal
 
 pub decide_framed-decision-requires : goal.decide_framed-decision-requires

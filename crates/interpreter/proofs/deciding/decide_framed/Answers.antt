@@ -7,7 +7,6 @@ use Rattle.rules.proofs.Questions.{framed}
 use Rattle.return_types.specs.Settled.{settled}
 use Rattle.interpreter.specs.Stages.{located_of}
 use Rattle.interpreter.proofs.Answers.{decodes, by_fetch, by_needs, by_located, next_small, in_table}
-use borrow.Author.Rules.{rules}
 use Rattle.interpreter.proofs.deciding.decide_framed.Goals as goal
 
 pub overflow_add-next : goal.overflow_add-next

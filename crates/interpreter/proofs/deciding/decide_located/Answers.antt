@@ -1,6 +1,5 @@
 -- `decide_located` meets its contract. Assumes nothing.
 use Rattle.interpreter.specs.Stages.{located_decision}
-use borrow.Author.Rules.{rules}
 use Rattle.interpreter.proofs.deciding.decide_located.Goals as goal
 
 pub returns-in-Refused : goal.returns-in-Refused

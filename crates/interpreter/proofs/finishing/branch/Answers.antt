@@ -2,7 +2,6 @@
 use lib.IntN.{pos}
 use Rattle.interpreter.specs.Stages.{branch_of}
 use Rattle.interpreter.proofs.Answers.{target_reach}
-use borrow.Author.Rules.{rules}
 use Rattle.interpreter.proofs.finishing.branch.Goals as goal
 
 pub returns-then-taken : goal.returns-then-taken

@@ -1,7 +1,6 @@
 -- `branch_offset` meets its contract. Assumes nothing.
 use Rattle.interpreter.specs.Stages.{offset_at}
 use borrow.Author.Tests.{eq-eqb, ne_eqb}
-use borrow.Author.Rules.{rules}
 use Rattle.interpreter.proofs.finishing.branch_offset.Goals as goal
 
 pub returns-then-op-eq-TABLESWITCH : goal.returns-then-op-eq-TABLESWITCH

@@ -2,7 +2,6 @@
 use lib.IntN.{pos}
 use Rattle.interpreter.specs.Stages.{finish_of}
 use Rattle.interpreter.proofs.Answers.{target_reach}
-use borrow.Author.Rules.{rules}
 use Rattle.interpreter.proofs.finishing.finish.Goals as goal
 
 pub ordinary_to-requires : goal.ordinary_to-requires

@@ -2,7 +2,6 @@
 use Prim.Native.Nat.{ℕ, zero, suc}
 use mathlib.Core.Path.{◌≡◌, refl}
 use Rattle.rules.specs.Step.{first_place}
-use borrow.Author.Rules.{rules}
 use Rattle.interpreter.proofs.finishing.first_place.Goals as goal
 
 written : (at n : ℕ) → (n ≡ 0 → ⊥) → at ≡ first_place at n

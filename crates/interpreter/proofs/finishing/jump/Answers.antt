@@ -4,7 +4,6 @@ use Rattle.values.specs.Kinds.{int}
 use Rattle.values.specs.Words.{meaning}
 use Rattle.interpreter.specs.Stages.{branch_of}
 use Rattle.interpreter.proofs.Answers.{target_reach}
-use borrow.Author.Rules.{rules}
 use Rattle.interpreter.proofs.finishing.jump.Goals as goal
 
 pub ordinary_to-requires : goal.ordinary_to-requires

@@ -1,6 +1,5 @@
 -- `locate` meets its contract. Assumes nothing.
 use Rattle.interpreter.specs.Stages.{located_of}
-use borrow.Author.Rules.{rules}
 use Rattle.interpreter.proofs.finishing.locate.Goals as goal
 
 pub returns-then-is_store : goal.returns-then-is_store

@@ -1,7 +1,6 @@
 -- `ordinary_to` meets its contract. Assumes nothing.
 use native.Mathlib.Omega.{arith}
 use Rattle.interpreter.specs.Stages.{ordinary_to}
-use borrow.Author.Rules.{rules}
 use Rattle.interpreter.proofs.finishing.ordinary_to.Goals as goal
 
 pub overflow_cast-result : goal.overflow_cast-result

@@ -1,5 +1,4 @@
 -- `four_at` meets its contract. Assumes nothing.
-use borrow.Author.Rules.{rules}
 use Rattle.interpreter.proofs.reading.four_at.Goals as goal
 
 pub returns : goal.returns

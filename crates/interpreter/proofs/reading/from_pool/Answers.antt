@@ -1,5 +1,4 @@
 -- `from_pool` meets its contract. Assumes nothing.
-use borrow.Author.Rules.{rules}
 use Rattle.interpreter.proofs.reading.from_pool.Goals as goal
 
 pub returns-in-Found : goal.returns-in-Found

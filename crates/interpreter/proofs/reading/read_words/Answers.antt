@@ -1,7 +1,6 @@
 -- `read_words` meets its contract. Assumes nothing.
 use Rattle.interpreter.specs.Stages.{read_of}
 use borrow.Author.Tests.{eq-eqb, ne_eqb}
-use borrow.Author.Rules.{rules}
 use Rattle.interpreter.proofs.reading.read_words.Goals as goal
 
 pub returns-then-op-eq-LDC : goal.returns-then-op-eq-LDC

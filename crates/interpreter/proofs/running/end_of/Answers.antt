@@ -1,5 +1,4 @@
 -- `end_of` meets its contract. Assumes nothing.
-use borrow.Author.Rules.{rules}
 use Rattle.interpreter.proofs.running.end_of.Goals as goal
 
 pub returns-in-Return : goal.returns-in-Return

@@ -1,5 +1,4 @@
 -- `ended` meets its contract. Assumes nothing.
-use borrow.Author.Rules.{rules}
 use Rattle.interpreter.proofs.running.ended.Goals as goal
 
 pub returns : goal.returns

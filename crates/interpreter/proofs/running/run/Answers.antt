@@ -3,7 +3,6 @@ use mathlib.Core.Path.{sym, ◌∙◌}
 use Rattle.rules.specs.Questions.{method}
 use Rattle.rules.proofs.Answers.{row_passed, row_refused}
 use Rattle.interpreter.proofs.Taken.{accounted, refused_run, passed_run}
-use borrow.Author.Rules.{rules}
 use Rattle.interpreter.proofs.running.run.Goals as goal
 
 pub run_framed-requires : goal.run_framed-requires

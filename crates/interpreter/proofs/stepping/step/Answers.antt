@@ -4,7 +4,6 @@ use Rattle.rules.specs.Questions.{method}
 use Rattle.rules.proofs.Answers.{row_passed}
 use Rattle.interpreter.proofs.Answers.{by_frame}
 use Rattle.interpreter.proofs.Taken.{step_refused}
-use borrow.Author.Rules.{rules}
 use Rattle.interpreter.proofs.stepping.step.Goals as goal
 
 pub step_framed-requires : goal.step_framed-requires

@@ -1,5 +1,4 @@
 -- `read_code_i8` meets its contract. Assumes nothing.
-use Rattle.std.proofs.Common.{rules}
 use Rattle.operands.proofs.bytes.read_code_i8.Goals as goal
 
 pub returns : goal.returns

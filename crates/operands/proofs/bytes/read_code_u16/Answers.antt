@@ -1,5 +1,5 @@
 -- `read_code_u16` meets its contract. Assumes nothing.
-use Rattle.std.proofs.Common.{sym, rules}
+use Rattle.std.proofs.Common.{sym}
 use Rattle.operands.proofs.Readings.{u16_past}
 use Rattle.operands.proofs.bytes.read_code_u16.Goals as goal
 

@@ -1,5 +1,5 @@
 -- `read_code_u8` meets its contract. Assumes nothing.
-use Rattle.std.proofs.Common.{sym, rules}
+use Rattle.std.proofs.Common.{sym}
 use Rattle.operands.proofs.Readings.{u8_past}
 use Rattle.operands.proofs.bytes.read_code_u8.Goals as goal
 

@@ -1,5 +1,5 @@
 -- `jump_relative` meets its contract. Assumes nothing.
-use Rattle.std.proofs.Common.{ℤ, ap, ◌∙◌, rules}
+use Rattle.std.proofs.Common.{ℤ, ap, ◌∙◌}
 use Rattle.rules.specs.Step as rules
 use Rattle.operands.specs.Target.{target_of}
 use Rattle.operands.proofs.Targets.{before_the_code, from_the_start}

@@ -1,5 +1,4 @@
 -- `in_order` meets its contract. Assumes nothing.
-use Rattle.std.proofs.Common.{rules}
 use Rattle.operands.proofs.switches.in_order.Goals as goal
 
 pub returns : goal.returns

@@ -1,11 +1,9 @@
 -- `key_index` meets its contract. The loop's invariant: i pairs stand before what is left, and none of them has the key. The measure is what is left of n. Assumes nothing.
-use Rattle.std.proofs.Common.{◌≡◌, ◌+◌, ◌-◌, ◌*◌, ◌≤◌, ℤ, sym, ap, ◌∙◌, arith, rules}
-use Rattle.values.specs.Integers.{signed, ◌=ᶻ◌}
+use Rattle.std.proofs.Common.{◌≡◌, ◌+◌, ◌-◌, ◌≤◌}
+use Rattle.values.specs.Integers.{signed}
 use Rattle.rules.specs.Fetch.{pairs_from}
 use Rattle.operands.specs.Switch.{key_index}
-use Rattle.operands.proofs.Readings.{word_means}
-use Rattle.operands.proofs.Pairs.{rest, key_at, rest_all}
-use Rattle.operands.proofs.Search.{index_end, index_here, index_next}
+use Rattle.operands.proofs.Pairs.{rest}
 use Rattle.operands.proofs.switches.key_index.Given as goal
 
 abbrev pub invariant-loop-i : goal.invariant-loop-i
@@ -13,4 +11,3 @@ invariant-loop-i l = (l.i ≤ l.n) × (key_index (signed 31 l.key) (pairs_from l
 
 abbrev pub decreases-loop-i : goal.decreases-loop-i
 decreases-loop-i l = l.n - l.i
-

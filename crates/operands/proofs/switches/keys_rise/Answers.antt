@@ -1,10 +1,10 @@
 -- `keys_rise` meets its contract. The loop's invariant: the keys rise if those from i on rise from the last one. The measure is what is left of n. Assumes nothing.
-use Rattle.std.proofs.Common.{◌≡◌, ◌+◌, ◌-◌, ◌*◌, ◌≤◌, ℤ, sym, ap, ◌∙◌, arith, rules}
+use Rattle.std.proofs.Common.{◌+◌, ◌*◌, ℤ, sym, ap, ◌∙◌, arith}
 use borrow.Author.Tests.{not-true, not-false}
 use Rattle.values.specs.Integers.{signed, ◌<ᶻ◌}
-use Rattle.rules.specs.Fetch.{pairs_from, rising_from, rising}
+use Rattle.rules.specs.Fetch.{rising_from}
 use Rattle.operands.proofs.Readings.{word_means}
-use Rattle.operands.proofs.Pairs.{rest, key_at, rising_none, rising_first, rising_end, rising_next, rising_no}
+use Rattle.operands.proofs.Pairs.{rest, rising_none, rising_first, rising_end, rising_next, rising_no}
 use Rattle.operands.proofs.switches.keys_rise.Goals as goal
 
 pub returns-then-n-eq0 : goal.returns-then-n-eq0

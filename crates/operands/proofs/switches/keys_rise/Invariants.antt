@@ -1,10 +1,8 @@
 -- `keys_rise` meets its contract. The loop's invariant: the keys rise if those from i on rise from the last one. The measure is what is left of n. Assumes nothing.
-use Rattle.std.proofs.Common.{◌≡◌, ◌+◌, ◌-◌, ◌*◌, ◌≤◌, ℤ, sym, ap, ◌∙◌, arith, rules}
-use borrow.Author.Tests.{not-true, not-false}
-use Rattle.values.specs.Integers.{signed, ◌<ᶻ◌}
+use Rattle.std.proofs.Common.{◌≡◌, ◌-◌, ◌≤◌}
+use Rattle.values.specs.Integers.{signed}
 use Rattle.rules.specs.Fetch.{pairs_from, rising_from, rising}
-use Rattle.operands.proofs.Readings.{word_means}
-use Rattle.operands.proofs.Pairs.{rest, key_at, rising_none, rising_first, rising_end, rising_next, rising_no}
+use Rattle.operands.proofs.Pairs.{rest}
 use Rattle.operands.proofs.switches.keys_rise.Given as goal
 
 abbrev pub invariant-loop-i : goal.invariant-loop-i
@@ -12,4 +10,3 @@ invariant-loop-i l = (l.i ≤ l.n) × (rising (pairs_from l.code l.at l.n) ≡ r
 
 abbrev pub decreases-loop-i : goal.decreases-loop-i
 decreases-loop-i l = l.n - l.i
-

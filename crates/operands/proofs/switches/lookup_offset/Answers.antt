@@ -1,6 +1,5 @@
 -- `lookup_offset` meets its contract. Assumes nothing.
 use Rattle.operands.proofs.Search.{no_pairs_read, pair_read, default_read}
-use Rattle.std.proofs.Common.{rules}
 use Rattle.operands.proofs.switches.lookup_offset.Goals as goal
 
 pub returns-then-count-ge2147483648 : goal.returns-then-count-ge2147483648

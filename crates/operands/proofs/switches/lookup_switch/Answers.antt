@@ -1,5 +1,5 @@
 -- `lookup_switch` meets its contract. Assumes nothing.
-use Rattle.std.proofs.Common.{sym, ap, ◌∙◌, ap₂, arith, rules}
+use Rattle.std.proofs.Common.{sym, ap, ◌∙◌, ap₂, arith}
 use borrow.Author.Tests.{not-true, not-false}
 use Rattle.rules.specs.Fetch.{u32, rising}
 use Rattle.rules.proofs.Questions.{lookup_cut, lookup_negative, lookup_missing, lookup_unsorted, lookup_there}

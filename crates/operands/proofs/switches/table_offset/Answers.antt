@@ -1,5 +1,5 @@
 -- `table_offset` meets its contract. Assumes nothing.
-use Rattle.std.proofs.Common.{sym, ◌∙◌, arith, rules}
+use Rattle.std.proofs.Common.{sym, ◌∙◌, arith}
 use borrow.Author.Tests.{not-true, not-false}
 use Rattle.operands.proofs.Entries.{below_the_lowest, above_the_highest, entry_read}
 use Rattle.operands.proofs.switches.table_offset.Goals as goal

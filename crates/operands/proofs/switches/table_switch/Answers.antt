@@ -1,8 +1,7 @@
 -- `table_switch` meets its contract. Assumes nothing.
-use Rattle.std.proofs.Common.{◌≡◌, ◌+◌, sym, ap, ◌∙◌, ap₂, arith, rules}
+use Rattle.std.proofs.Common.{◌≡◌, ◌+◌, sym, ap, ◌∙◌, ap₂, arith}
 use borrow.Author.Tests.{not-true, not-false}
-use Rattle.values.specs.Integers.{◌≤ᶻ◌}
-use Rattle.rules.specs.Fetch.{u32, low_key, high_key, keys}
+use Rattle.rules.specs.Fetch.{u32, keys}
 use Rattle.rules.proofs.Questions.{table_cut, table_disordered, table_missing, table_there}
 use Rattle.operands.specs.declared.switches.Switch.TheVariants.{Accepted}
 use Rattle.operands.specs.Switch.{switch_of}

@@ -1,18 +1,16 @@
 -- `check_sheet` meets its contract. The loop's invariant: what was read lies before the next record, and what is left to read gives what the whole sheet gives.
 -- Assumes nothing.
-use Prim.Native.Nat.{◌-◌, ◌≤◌}
-use mathlib.Core.Path.{◌≡◌, sym, ap, ◌∙◌}
+use mathlib.Core.Path.{sym, ap, ◌∙◌}
 use native.Mathlib.Omega.{arith}
 use native.Mathlib.Nat.{sub-zero}
 use lib.ListN.{length}
 use borrow.Author.Tests.{eq-eqb, ne_eqb}
 use Rattle.rules.specs.Check.{◌else◌, ◌>>◌}
-use Rattle.rules.specs.Sheet.{read_from, sheet_check}
+use Rattle.rules.specs.Sheet.{sheet_check}
 use Rattle.rules.proofs.Sheet.{read_end, next_record, bad_record, record_there}
-use Rattle.rules.proofs.Placement.{Placed, nothing_read, next_placed}
+use Rattle.rules.proofs.Placement.{nothing_read, next_placed}
 use Rattle.sheet.specs.Records.{record_answer}
 use Rattle.sheet.proofs.Answers.{record_read, record_refused}
-use borrow.Author.Rules.{rules}
 use Rattle.sheet.proofs.checking.check_sheet.Goals as goal
 
 pub loop-at-init : goal.loop-at-init

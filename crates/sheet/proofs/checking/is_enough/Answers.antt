@@ -4,7 +4,6 @@ use borrow.Author.Tests.{le-leb, lt-leb, eq-eqb, ne_eqb, not-true, not-false}
 use Rattle.rules.specs.Check.{◌else◌, ◌>>◌}
 use Rattle.rules.specs.Sheet.{memory_check}
 use Rattle.rules.proofs.Check.{last_asked}
-use borrow.Author.Rules.{rules}
 use Rattle.sheet.proofs.checking.is_enough.Goals as goal
 
 pub returns-then-slots-p : goal.returns-then-slots-p

@@ -3,7 +3,6 @@ use mathlib.Core.Path.{sym, ap, ◌∙◌}
 use borrow.Author.Tests.{not-true, not-false}
 use Rattle.rules.specs.Answers.{checked}
 use Rattle.rules.proofs.Sheet.{too_many, wrong_count, arguments_read}
-use borrow.Author.Rules.{rules}
 use Rattle.sheet.proofs.contents.check_arguments.Goals as goal
 
 pub returns-then-count-p : goal.returns-then-count-p

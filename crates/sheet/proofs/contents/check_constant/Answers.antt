@@ -3,7 +3,6 @@ use mathlib.Core.Path.{sym, ap, ◌∙◌}
 use borrow.Author.Tests.{not-true, not-false}
 use Rattle.rules.specs.Answers.{checked}
 use Rattle.rules.proofs.Sheet.{tag_unfit, word_unfit, index_used, index_past, constant_read}
-use borrow.Author.Rules.{rules}
 use Rattle.sheet.proofs.contents.check_constant.Goals as goal
 
 pub returns-then-not-tag_suits : goal.returns-then-not-tag_suits

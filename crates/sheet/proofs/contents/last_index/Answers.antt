@@ -1,7 +1,6 @@
 -- `last_index` meets its contract. Assumes nothing.
 use borrow.Author.Tests.{eq-eqb, ne_eqb}
 use Rattle.rules.specs.Sheet.{last_index}
-use borrow.Author.Rules.{rules}
 use Rattle.sheet.proofs.contents.last_index.Goals as goal
 
 pub returns-then-body_length-eq-WIDE_CONSTANT : goal.returns-then-body_length-eq-WIDE_CONSTANT

@@ -5,7 +5,6 @@ use Rattle.rules.specs.Sheet.{with_record}
 use Rattle.rules.proofs.Sheet.{bad_contents, good_contents}
 use Rattle.rules.proofs.Answers.{row_passed, row_refused}
 use Rattle.sheet.specs.Records.{record_answer}
-use borrow.Author.Rules.{rules}
 use Rattle.sheet.proofs.contents.read_constant.Goals as goal
 
 pub returns-in-Refused : goal.returns-in-Refused

@@ -1,7 +1,6 @@
 -- `read_sizes` meets its contract. Assumes nothing.
 use Rattle.rules.specs.Check.{◌>>◌}
 use Rattle.rules.specs.Sheet.{contents_check, with_record}
-use borrow.Author.Rules.{rules}
 use Rattle.sheet.proofs.contents.read_sizes.Goals as goal
 
 pub returns : goal.returns

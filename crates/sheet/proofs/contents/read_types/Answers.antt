@@ -6,7 +6,6 @@ use Rattle.rules.specs.Sheet.{with_record}
 use Rattle.rules.proofs.Sheet.{bad_contents, good_contents}
 use Rattle.sheet.specs.Records.{record_answer}
 use Rattle.sheet.proofs.Answers.{part_is, described, not_described}
-use borrow.Author.Rules.{rules}
 use Rattle.sheet.proofs.contents.read_types.Goals as goal
 
 pub returns-in-Refused : goal.returns-in-Refused

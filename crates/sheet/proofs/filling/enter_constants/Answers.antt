@@ -1,9 +1,7 @@
 -- `enter_constants` meets its contract. The loop's invariant: what is left to enter gives what all of it gives. Assumes nothing.
 use Prim.Native.Nat.{◌-◌}
-use mathlib.Core.Path.{◌≡◌, refl, sym, ◌∙◌}
+use mathlib.Core.Path.{refl, sym, ◌∙◌}
 use native.Mathlib.Omega.{arith}
-use lib.ListN.{length}
-use Rattle.rules.specs.Sheet.{pool_from}
 use Rattle.rules.proofs.Sheet.{pool_end, next_constant}
 use Rattle.sheet.specs.Filled.{pool}
 use borrow.Author.Rules.{rules}

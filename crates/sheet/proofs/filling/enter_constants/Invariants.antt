@@ -1,12 +1,9 @@
 -- `enter_constants` meets its contract. The loop's invariant: what is left to enter gives what all of it gives. Assumes nothing.
 use Prim.Native.Nat.{◌-◌}
-use mathlib.Core.Path.{◌≡◌, refl, sym, ◌∙◌}
-use native.Mathlib.Omega.{arith}
+use mathlib.Core.Path.{◌≡◌}
 use lib.ListN.{length}
 use Rattle.rules.specs.Sheet.{pool_from}
-use Rattle.rules.proofs.Sheet.{pool_end, next_constant}
 use Rattle.sheet.specs.Filled.{pool}
-use borrow.Author.Rules.{rules}
 use Rattle.sheet.proofs.filling.enter_constants.Given as goal
 
 abbrev pub invariant-loop-at : goal.invariant-loop-at
@@ -14,4 +11,3 @@ invariant-loop-at l = (length l.kinds ≡ length l.initial.kinds) × (length l.w
 
 abbrev pub decreases-loop-at : goal.decreases-loop-at
 decreases-loop-at l = l.end - l.at
-

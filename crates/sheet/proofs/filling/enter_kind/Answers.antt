@@ -1,5 +1,4 @@
 -- `enter_kind` meets its contract. Assumes nothing.
-use borrow.Author.Rules.{rules}
 use Rattle.sheet.proofs.filling.enter_kind.Goals as goal
 
 pub returns : goal.returns

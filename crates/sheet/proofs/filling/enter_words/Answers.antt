@@ -1,7 +1,6 @@
 -- `enter_words` meets its contract. Assumes nothing.
 use mathlib.Core.Path.{sym, ◌∙◌}
 use Rattle.sheet.proofs.Constants.{wide_words, narrow_words}
-use borrow.Author.Rules.{rules}
 use Rattle.sheet.proofs.filling.enter_words.Goals as goal
 
 pub returns-then-body_length-eq-WIDE_CONSTANT : goal.returns-then-body_length-eq-WIDE_CONSTANT

@@ -3,7 +3,6 @@ use native.Mathlib.Omega.{arith}
 use mathlib.Core.List.{append-nil}
 use lib.ListN.{length, drop_of_length-le}
 use Rattle.sheet.proofs.Fronts.{zeros}
-use borrow.Author.Rules.{rules}
 use Rattle.sheet.proofs.filling.fill_pool.Goals as goal
 
 pub returns : goal.returns

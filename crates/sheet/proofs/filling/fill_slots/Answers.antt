@@ -6,7 +6,6 @@ use native.Mathlib.Omega.{arith}
 use lib.ListN.{drop}
 use Rattle.rules.specs.Sheet.{arguments_from}
 use Rattle.sheet.proofs.Fronts.{zeros, drop_zeros}
-use borrow.Author.Rules.{rules}
 use Rattle.sheet.proofs.filling.fill_slots.Goals as goal
 
 pub returns : goal.returns

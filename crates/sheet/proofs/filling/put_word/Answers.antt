@@ -1,7 +1,6 @@
 -- `put_word` meets its contract. Assumes nothing.
 use mathlib.Core.Path.{sym}
 use lib.Seq.{set_out}
-use borrow.Author.Rules.{rules}
 use Rattle.sheet.proofs.filling.put_word.Goals as goal
 
 pub returns-else-index-target : goal.returns-else-index-target

@@ -1,5 +1,5 @@
 -- `write_arguments` meets its contract. The loop's invariant: the first i words are arguments. Assumes nothing.
-use Prim.Native.Nat.{ℕ, ◌+◌, ◌-◌, ◌≤◌, ◌<◌}
+use Prim.Native.Nat.{ℕ, ◌+◌, ◌<◌}
 use mathlib.Core.Path.{◌≡◌, refl, ap, ◌∙◌}
 use mathlib.Core.List.{List, ◌++◌}
 use native.Mathlib.Omega.{arith}
@@ -7,7 +7,6 @@ use lib.ListN.{length, drop, length-set}
 use Rattle.rules.specs.Sheet.{arguments_from}
 use Rattle.rules.proofs.AcceptedLoad.{length_arguments}
 use Rattle.sheet.proofs.Fronts.{front_set, one_more_argument}
-use borrow.Author.Rules.{rules}
 use Rattle.sheet.proofs.filling.write_arguments.Goals as goal
 
 pub loop-i-init : goal.loop-i-init

@@ -1,13 +1,9 @@
 -- `write_arguments` meets its contract. The loop's invariant: the first i words are arguments. Assumes nothing.
-use Prim.Native.Nat.{ℕ, ◌+◌, ◌-◌, ◌≤◌, ◌<◌}
-use mathlib.Core.Path.{◌≡◌, refl, ap, ◌∙◌}
-use mathlib.Core.List.{List, ◌++◌}
-use native.Mathlib.Omega.{arith}
-use lib.ListN.{length, drop, length-set}
+use Prim.Native.Nat.{◌-◌, ◌≤◌}
+use mathlib.Core.Path.{◌≡◌}
+use mathlib.Core.List.{◌++◌}
+use lib.ListN.{length, drop}
 use Rattle.rules.specs.Sheet.{arguments_from}
-use Rattle.rules.proofs.AcceptedLoad.{length_arguments}
-use Rattle.sheet.proofs.Fronts.{front_set, one_more_argument}
-use borrow.Author.Rules.{rules}
 use Rattle.sheet.proofs.filling.write_arguments.Given as goal
 
 abbrev pub invariant-loop-i : goal.invariant-loop-i
@@ -15,4 +11,3 @@ invariant-loop-i l = (l.i ≤ l.count) × (l.slots ≡ arguments_from l.sheet l.
 
 abbrev pub decreases-loop-i : goal.decreases-loop-i
 decreases-loop-i l = l.count - l.i
-

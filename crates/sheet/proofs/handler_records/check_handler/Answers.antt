@@ -3,7 +3,6 @@ use mathlib.Core.Path.{sym, ap, ◌∙◌}
 use borrow.Author.Tests.{eq-eqb, ne_eqb, not-true, not-false}
 use Rattle.rules.specs.Answers.{checked}
 use Rattle.rules.proofs.Sheet.{handler_cut, no_range, start_past, handler_past, end_past, no_catch_type, handler_read}
-use borrow.Author.Rules.{rules}
 use Rattle.sheet.proofs.handler_records.check_handler.Goals as goal
 
 pub returns-then-body_length-ne8 : goal.returns-then-body_length-ne8

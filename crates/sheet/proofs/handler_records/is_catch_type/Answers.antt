@@ -1,6 +1,5 @@
 -- `is_catch_type` meets its contract. Assumes nothing.
 use borrow.Author.Tests.{eq-eqb, ne_eqb}
-use borrow.Author.Rules.{rules}
 use Rattle.sheet.proofs.handler_records.is_catch_type.Goals as goal
 
 pub returns-then-catch_type-eq0 : goal.returns-then-catch_type-eq0

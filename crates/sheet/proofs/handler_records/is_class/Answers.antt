@@ -1,11 +1,10 @@
 -- `is_class` meets its contract. The loop's invariant: what is left to look through gives what all of it gives. Assumes nothing.
-use Prim.Native.Nat.{ℕ, ◌-◌}
-use mathlib.Core.Path.{◌≡◌, refl, sym, ap, ◌∙◌}
+use Prim.Native.Nat.{◌-◌}
+use mathlib.Core.Path.{refl, sym, ap, ◌∙◌}
 use mathlib.Core.Bool.{Bool, ◌||◌}
 use native.Mathlib.Omega.{arith}
 use Rattle.rules.specs.Sheet.{record_end, class_from}
 use Rattle.rules.proofs.Sheet.{class_end, next_class}
-use borrow.Author.Rules.{rules}
 use Rattle.sheet.proofs.handler_records.is_class.Goals as goal
 
 pub loop-at-init : goal.loop-at-init

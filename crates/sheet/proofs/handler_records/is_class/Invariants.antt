@@ -1,11 +1,7 @@
 -- `is_class` meets its contract. The loop's invariant: what is left to look through gives what all of it gives. Assumes nothing.
-use Prim.Native.Nat.{ℕ, ◌-◌}
-use mathlib.Core.Path.{◌≡◌, refl, sym, ap, ◌∙◌}
-use mathlib.Core.Bool.{Bool, ◌||◌}
-use native.Mathlib.Omega.{arith}
-use Rattle.rules.specs.Sheet.{record_end, class_from}
-use Rattle.rules.proofs.Sheet.{class_end, next_class}
-use borrow.Author.Rules.{rules}
+use Prim.Native.Nat.{◌-◌}
+use mathlib.Core.Path.{◌≡◌}
+use Rattle.rules.specs.Sheet.{class_from}
 use Rattle.sheet.proofs.handler_records.is_class.Given as goal
 
 abbrev pub invariant-loop-at : goal.invariant-loop-at
@@ -13,4 +9,3 @@ invariant-loop-at l = class_from (l.end - l.at) l.sheet l.at l.end l.index ≡ c
 
 abbrev pub decreases-loop-at : goal.decreases-loop-at
 decreases-loop-at l = l.end - l.at
-

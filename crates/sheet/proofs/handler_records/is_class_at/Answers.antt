@@ -1,6 +1,5 @@
 -- `is_class_at` meets its contract. Assumes nothing.
 use borrow.Author.Tests.{eq-eqb, ne_eqb}
-use borrow.Author.Rules.{rules}
 use Rattle.sheet.proofs.handler_records.is_class_at.Goals as goal
 
 pub returns-then-read_code_u16-index : goal.returns-then-read_code_u16-index

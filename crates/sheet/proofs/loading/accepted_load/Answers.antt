@@ -1,5 +1,4 @@
 -- `accepted_load` meets its contract. Assumes nothing.
-use borrow.Author.Rules.{rules}
 use Rattle.sheet.proofs.loading.accepted_load.Goals as goal
 
 pub returns : goal.returns

@@ -2,7 +2,6 @@
 use mathlib.Core.Path.{sym, ◌∙◌}
 use Rattle.rules.proofs.Sheet.{load_refused}
 use Rattle.sheet.proofs.Answers.{record_read, record_refused}
-use borrow.Author.Rules.{rules}
 use Rattle.sheet.proofs.loading.load.Goals as goal
 
 pub load_read-requires : goal.load_read-requires

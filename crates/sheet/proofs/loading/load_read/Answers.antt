@@ -7,7 +7,6 @@ use Rattle.rules.proofs.Sheet.{load_short, load_accepted}
 use Rattle.rules.proofs.Placement.{sheet_within}
 use Rattle.sheet.specs.Filled.{pool}
 use Rattle.sheet.proofs.Answers.{not_enough, enough, slots_reach}
-use borrow.Author.Rules.{rules}
 use Rattle.sheet.proofs.loading.load_read.Goals as goal
 
 pub returns-then-not-is_enough : goal.returns-then-not-is_enough

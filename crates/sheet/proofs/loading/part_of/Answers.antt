@@ -4,7 +4,6 @@ use mathlib.Core.Path.{◌≡◌}
 use native.Mathlib.Omega.{arith}
 use lib.ListN.{length}
 use borrow.Author.Tests.{le-leb, lt-leb}
-use borrow.Author.Rules.{rules}
 use Rattle.sheet.proofs.loading.part_of.Goals as goal
 
 pub returns-then-sheet-start : goal.returns-then-sheet-start

@@ -1,6 +1,5 @@
 -- `right_length` meets its contract. Assumes nothing.
 use borrow.Author.Tests.{eq-eqb, ne_eqb}
-use borrow.Author.Rules.{rules}
 use Rattle.sheet.proofs.marks.right_length.Goals as goal
 
 pub returns-in-LM : goal.returns-in-LM

@@ -1,6 +1,5 @@
 -- `tag_suits` meets its contract. Assumes nothing.
 use borrow.Author.Tests.{eq-eqb, ne_eqb}
-use borrow.Author.Rules.{rules}
 use Rattle.sheet.proofs.marks.tag_suits.Goals as goal
 
 pub returns-then-size-eq-NARROW_CONSTANT : goal.returns-then-size-eq-NARROW_CONSTANT

@@ -9,7 +9,6 @@ use Rattle.rules.specs.declared.Reading.{Reading}
 use Rattle.rules.specs.Sheet.{body_length, follows, right_length, contents_read, marked_check}
 use Rattle.rules.proofs.Sheet.{disordered, wrong_length, read_on}
 use Rattle.sheet.specs.Records.{record_answer}
-use borrow.Author.Rules.{rules}
 use Rattle.sheet.proofs.records.check_marked.Goals as goal
 
 pub returns-then-not-may_follow : goal.returns-then-not-may_follow

@@ -3,7 +3,6 @@ use mathlib.Core.Path.{sym, ap, ◌∙◌}
 use Rattle.rules.proofs.Sheet.{head_cut, body_cut, unknown, marked}
 use Rattle.sheet.specs.Records.{record_answer}
 use Rattle.sheet.proofs.Answers.{mark_known, mark_unknown}
-use borrow.Author.Rules.{rules}
 use Rattle.sheet.proofs.records.check_record.Goals as goal
 
 pub returns-then-sheet-at : goal.returns-then-sheet-at

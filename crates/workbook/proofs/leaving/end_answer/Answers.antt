@@ -1,5 +1,4 @@
 -- `end_answer` meets its contract. Assumes nothing.
-use borrow.Author.Rules.{rules}
 use Rattle.workbook.proofs.leaving.end_answer.Goals as goal
 
 pub returns-in-Stopped : goal.returns-in-Stopped

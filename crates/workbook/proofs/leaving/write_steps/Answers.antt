@@ -1,5 +1,4 @@
 -- `write_steps` meets its contract. Assumes nothing.
-use borrow.Author.Rules.{rules}
 use Rattle.workbook.proofs.leaving.write_steps.Goals as goal
 
 pub returns : goal.returns

@@ -1,5 +1,4 @@
 -- `write_value` meets its contract. Assumes nothing.
-use borrow.Author.Rules.{rules}
 use Rattle.workbook.proofs.leaving.write_value.Goals as goal
 
 pub returns : goal.returns

@@ -4,7 +4,6 @@ use mathlib.Core.List.{[], ◌∷◌}
 use Rattle.rules.specs.Questions.{method}
 use Rattle.rules.specs.Sheet.{loaded_state}
 use Rattle.workbook.proofs.ManyPresses.{no_room, list_refused}
-use borrow.Author.Rules.{rules}
 use Rattle.workbook.proofs.lists.refuse_presses.Goals as goal
 
 pub returns : goal.returns

@@ -1,14 +1,12 @@
 -- `has_words` meets its contract. Assumes nothing.
-use Prim.Native.Nat.{◌^◌, ◌<◌}
-use mathlib.Core.Path.{◌≡◌, sym, ap, ◌∙◌}
-use native.Mathlib.Omega.{arith}
-use lib.Dec.{ltb, leb}
+use Prim.Native.Nat.{◌^◌}
+use mathlib.Core.Path.{sym, ap, ◌∙◌}
+use lib.Dec.{ltb}
 use borrow.Author.Tests.{not-true, not-false}
 use Rattle.rules.specs.Check.{is_passed}
 use Rattle.rules.specs.Sheet.{handlers_length}
 use Rattle.rules.proofs.Check.{last_asked}
 use Rattle.workbook.proofs.Checks.{words_short, words_long, word_most}
-use borrow.Author.Rules.{rules}
 use Rattle.workbook.proofs.loads.has_words.Goals as goal
 
 pub returns-then-not-are_lent : goal.returns-then-not-are_lent

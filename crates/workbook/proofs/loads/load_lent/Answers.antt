@@ -7,7 +7,6 @@ use Rattle.rules.proofs.Check.{is_passed_lem}
 use Rattle.rules.proofs.Placement.{sheet_within}
 use Rattle.workbook.proofs.Checks.{words_no, words_yes}
 use Rattle.workbook.proofs.LoadedWords.{parts_lie, load_short, load_refused, load_accepted}
-use borrow.Author.Rules.{rules}
 use Rattle.workbook.proofs.loads.load_lent.Goals as goal
 
 pub has_words-requires : goal.has_words-requires

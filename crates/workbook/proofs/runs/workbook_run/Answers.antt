@@ -5,7 +5,6 @@ use Rattle.rules.proofs.Check.{is_passed_lem}
 use Rattle.rules.specs.Step.{machine}
 use Rattle.workbook.proofs.Checks.{lengths_no, lengths_yes, sizes_no, sizes_yes}
 use Rattle.workbook.proofs.Made.{run_short, run_sizes, run_made}
-use borrow.Author.Rules.{rules}
 use Rattle.workbook.proofs.runs.workbook_run.Goals as goal
 
 pub returns-then-not-are_lent : goal.returns-then-not-are_lent

@@ -1,5 +1,4 @@
 -- `read_state` meets its contract. Assumes nothing.
-use borrow.Author.Rules.{rules}
 use Rattle.workbook.proofs.state_words.read_state.Goals as goal
 
 pub returns : goal.returns

@@ -1,6 +1,5 @@
 -- `sizes_fit` meets its contract. Assumes nothing.
 use Rattle.workbook.proofs.Checks.{stack_large, stack_fits}
-use borrow.Author.Rules.{rules}
 use Rattle.workbook.proofs.state_words.sizes_fit.Goals as goal
 
 pub returns-then-state-gt65535 : goal.returns-then-state-gt65535

@@ -1,5 +1,4 @@
 -- `write_state` meets its contract. Assumes nothing.
-use borrow.Author.Rules.{rules}
 use Rattle.workbook.proofs.state_words.write_state.Goals as goal
 
 pub returns : goal.returns

@@ -7,7 +7,6 @@ use Rattle.rules.specs.Step.{core_machine}
 use mathlib.Core.List.{[]}
 use Rattle.workbook.proofs.Checks.{sizes_no, sizes_yes}
 use Rattle.workbook.proofs.Made.{back_made, back_short, back_sizes}
-use borrow.Author.Rules.{rules}
 use Rattle.workbook.proofs.steps.workbook_back.Goals as goal
 
 pub returns-then-state-lt-STATE_WORDS : goal.returns-then-state-lt-STATE_WORDS

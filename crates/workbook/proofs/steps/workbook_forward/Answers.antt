@@ -11,7 +11,6 @@ use Rattle.workbook.proofs.Made.{forward_made}
 use Rattle.rules.specs.History.{forward_of}
 use Rattle.workbook.specs.StateWords.{state_in}
 use Rattle.workbook.specs.Calls.{forward_call}
-use borrow.Author.Rules.{rules}
 use Rattle.workbook.proofs.steps.workbook_forward.Goals as goal
 
 pub returns-then-not-are_lent : goal.returns-then-not-are_lent

@@ -11,7 +11,6 @@ use Rattle.workbook.specs.StateWords.{state_in}
 use Prim.Native.Nat.{◌≤◌}
 use lib.ListN.{length}
 use Rattle.workbook.specs.Calls.{step_call}
-use borrow.Author.Rules.{rules}
 use Rattle.workbook.proofs.steps.workbook_step.Goals as goal
 
 pub returns-then-not-are_lent : goal.returns-then-not-are_lent
