@@ -1,4 +1,4 @@
-//! Links the archive that `rt staticlib workbook` writes in the repository's root.
+//! Links the archive that `tools/library` writes in the repository's root.
 
 use std::path::PathBuf;
 use std::{env, process};
@@ -13,9 +13,7 @@ fn main() {
     println!("cargo::rerun-if-changed=build.rs");
     if !archive.is_file() {
         eprintln!("There is no {}.", archive.display());
-        eprintln!(
-            "Run `rt staticlib workbook` in the repository's root first; it writes this archive."
-        );
+        eprintln!("Run `tools/library` in the repository's root first; it writes this archive.");
         process::exit(1);
     }
     println!("cargo::rustc-link-search=native={}", folder.display());

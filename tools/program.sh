@@ -1,13 +1,12 @@
 # shellcheck shell=bash
-# For tools/walksheet and tools/opcodes: a program of crates/, proved and built where it is not there yet, and linked here, so that it runs with this machine's C library.
+# For tools/walksheet and tools/opcodes: a program of crates/, proved and built where it is not there yet.
 
 # program NAME: the path of the program.
 program() {
-    local root object program
-    root=$(cd "$(dirname "${BASH_SOURCE[0]}")/.." && pwd)
-    object=$root/target/obj/$1.o
-    program=$root/target/$1
-    [ -e "$object" ] || (cd "$root" && rt check "$1" >&2) || return
-    [ "$program" -nt "$object" ] || cc "$object" -lm -o "$program" || return
+    local crate program
+    crate=$(cd "$(dirname "${BASH_SOURCE[0]}")/../crates/$1" && pwd) || return
+    program=$crate/out/$1
+    # rt has no command that only builds a program: what this run of it prints, and its status, are of no use here.
+    [ -x "$program" ] || (cd "$crate" && rt run < /dev/null > /dev/null) || [ -x "$program" ] || return
     echo "$program"
 }

@@ -19,7 +19,7 @@ fn compare(found: u32) {
     assert!(
         found == VERSION,
         "libworkbook.a has version {found}, and this program was written for version {VERSION}: \
-         build both from one commit, the archive with `rt staticlib workbook`"
+         build both from one commit, the archive with `tools/library`"
     );
 }
 
@@ -48,7 +48,7 @@ mod tests {
             let message = message.downcast_ref::<String>().unwrap();
             let found = format!("has version {other}, and");
             assert!(message.contains(&found), "{message}");
-            assert!(message.contains("rt staticlib workbook"), "{message}");
+            assert!(message.contains("tools/library"), "{message}");
         }
     }
 }

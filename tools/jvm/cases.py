@@ -1,6 +1,6 @@
 """Methods as sheets, how the exported library ends them, and which rows of docs/DIFFERENCES.md their walks meet.
 
-Needs target/staticlib/libworkbook.a (rt staticlib workbook) and a C compiler.
+Needs target/staticlib/libworkbook.a (tools/library) and a C compiler.
 """
 
 import pathlib
