@@ -56,7 +56,7 @@ rescaled (fin t m x) s a c b d C e h = (
 )
 
 -- ---- q * 2 ^ k smallest values, whatever carry the rounding made, up to an infinity
-emax_pos : (f : Format) → 0 < emax f
+pub emax_pos : (f : Format) → 0 < emax f
 emax_pos binary32 = lit≤ tt
 emax_pos binary64 = lit≤ tt
 

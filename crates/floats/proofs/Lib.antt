@@ -1,2 +1,4 @@
 pub mod NaNs
 pub mod Flipped
+pub mod UnitWords
+pub mod IeeeRem

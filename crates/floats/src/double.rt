@@ -8,6 +8,7 @@ ghost use Rattle.values.specs.Floats.{order_or};
 ghost use Rattle.values.specs.Words.{meaning, bits};
 
 use crate::order::ordered;
+use crate::remainder::remainder;
 
 // The double that a word stands for; every NaN's word stands for the one NaN.
 fn double_of(w: u64) -> f64
@@ -63,7 +64,15 @@ pub fn ddiv(a: u64, b: u64) -> u64
 pub fn drem(a: u64, b: u64) -> u64
     ensures { result ≡ bits double (Ieee.rem binary64 (meaning double a) (meaning double b)) }
 {
-    double_word(double_of(a) % double_of(b))
+    let x = a % 0x8000_0000_0000_0000;
+    let y = b % 0x8000_0000_0000_0000;
+    if x >= 0x7ff0_0000_0000_0000 || y > 0x7ff0_0000_0000_0000 || y == 0 {
+        return 0x7ff8_0000_0000_0000;
+    }
+    if y == 0x7ff0_0000_0000_0000 {
+        return a;
+    }
+    a - x + remainder(x, y, 0x10_0000_0000_0000)
 }
 
 // DNEG: the sign turned over, of a zero or a NaN too.

@@ -3,6 +3,7 @@
 
 mod double;
 mod order;
+mod remainder;
 mod single;
 
 pub use double::{dadd, dcmpg, dcmpl, ddiv, dmul, dneg, drem, dsub};

@@ -8,6 +8,7 @@ ghost use Rattle.values.specs.Floats.{order_or};
 ghost use Rattle.values.specs.Words.{meaning, bits};
 
 use crate::order::ordered;
+use crate::remainder::remainder;
 
 // The float that a word stands for; every NaN's word stands for the one NaN.
 fn float_of(w: u32) -> f32
@@ -59,7 +60,15 @@ pub fn fdiv(a: u32, b: u32) -> u32
 pub fn frem(a: u32, b: u32) -> u32
     ensures { result ≡ bits float (Ieee.rem binary32 (meaning float a) (meaning float b)) }
 {
-    word_of(float_of(a) % float_of(b))
+    let x = a % 0x8000_0000;
+    let y = b % 0x8000_0000;
+    if x >= 0x7f80_0000 || y > 0x7f80_0000 || y == 0 {
+        return 0x7fc0_0000;
+    }
+    if y == 0x7f80_0000 {
+        return a;
+    }
+    a - x + remainder(x as u64, y as u64, 0x80_0000) as u32
 }
 
 // FNEG: the sign turned over, of a zero or a NaN too.

@@ -1,0 +1,6 @@
+-- What `moved_remainder` keeps: the remainder of the digits, moved up as often as turns were taken. Assumes nothing.
+use Rattle.std.proofs.Common.{◌≡◌, ◌*◌, ◌%◌, ◌^◌}
+use Rattle.floats.proofs.remainder.moved_remainder.Given as goal
+
+abbrev pub invariant-loop-i : goal.invariant-loop-i
+invariant-loop-i l = l.rest ≡ l.m * 2 ^ l.i % l.n
