@@ -1,6 +1,7 @@
 // Runs vectors from standard input through `decode` of instructions, the two switches of operands and the two loads of const_pool,
 // and counts those that differ, by kind and in all. judge/src/lists/decoding writes the vectors and says how a line is laid out.
 #![tactic(auto)]
+
 mod answers;
 mod fields;
 

@@ -1,5 +1,6 @@
 // Prints the page of opcodes (RULES, 'The page of opcodes'): a line for each of the 256.
 #![tactic(auto)]
+
 use instructions::opcode_line;
 use printing::{print, print_number};
 use std::io;
