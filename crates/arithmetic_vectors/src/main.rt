@@ -1,11 +1,14 @@
 // Runs vectors from standard input through the public functions of integers, floats and conversions, and counts those that
 // differ, by function and in all. tools/vectors/arithmetic.py writes the vectors and says how a line is laid out.
 #![tactic(auto)]
+
 mod apply;
 
 ghost use Rattle.std.specs.Prelude.{◌≤◌};
 
-use libc::STDOUT_FILENO;
+use reading::read_full;
+use std::io;
+use std::io::Read;
 
 // A line, its line feed included.
 type Line = [u8; 64];
@@ -60,15 +63,13 @@ fn after_blanks(line: &Line, start: usize, end: usize) -> usize
 fn number(line: &Line, start: usize, end: usize) -> Field
     requires { end ≤ 64 }
 {
-    let mut at = after_blanks(line, start, end);
     let mut value: u64 = 0;
-    while at < end {
+    for at in after_blanks(line, start, end)..end {
         let d = digit(line[at]);
         if d > 15 {
             return Field::Malformed;
         }
         value = value << 4 | d;
-        at += 1;
     }
     Field::Value(value)
 }
@@ -102,24 +103,19 @@ fn holds(line: &Line) -> bool {
 
 // Whether two lines are of one function: the opcode and the name have the first 12 columns.
 fn is_same_function(one: &Line, other: &Line) -> bool {
-    let mut at = 0;
-    while at < 12 {
+    for at in 0..12 {
         if one[at] != other[at] {
             return false;
         }
-        at += 1;
     }
     true
 }
 
 // Reads a line. Blanks stand where the input ends early, so that a line that is cut short has no line feed at its end.
-fn read_line() -> Input {
+fn read_line(stdin: &mut impl Read) -> io::Result<Input> {
     let mut line = [b' '; 64];
-    let count = io::read_full(0, &mut line);
-    Input {
-        line: line,
-        count: count,
-    }
+    let count = read_full(stdin, &mut line)?;
+    Ok(Input { line, count })
 }
 
 // One more, up to a number that no file of vectors reaches.
@@ -137,24 +133,24 @@ fn counted(tally: Tally, is_right: bool) -> Tally {
 }
 
 // Prints a tally.
-fn print_tally(tally: Tally) {
-    io::print_decimal(STDOUT_FILENO, tally.vectors);
-    io::write_all(STDOUT_FILENO, b" vectors, ");
-    io::print_decimal(STDOUT_FILENO, tally.differ);
-    io::write_all(STDOUT_FILENO, b" differ\n");
+fn print_tally(rt: &impl Print, tally: Tally) -> io::Result<()> {
+    let vectors = tally.vectors;
+    let differ = tally.differ;
+    println!(rt; "{vectors} vectors, {differ} differ")
 }
 
 // Prints the tally of a function, with the name that stands in its first line, if it had a vector.
-fn print_function(first: &Line, tally: Tally) {
+fn print_function(rt: &impl Print, first: &Line, tally: Tally) -> io::Result<()> {
     if tally.vectors > 0 {
         let line = &first[..];
-        io::write_all(STDOUT_FILENO, &line[3..13]);
-        print_tally(tally);
+        rt.write_all(&line[3..13])?;
+        print_tally(rt, tally)?;
     }
+    Ok(())
 }
 
 // Reads line by line, and prints the tally of a function when the next one begins.
-fn main() {
+fn main(rt: HostRuntime) -> io::Result<()> {
     let none = Tally {
         vectors: 0,
         differ: 0,
@@ -162,24 +158,23 @@ fn main() {
     let mut total = none;
     let mut of_function = none;
     let mut first = [b' '; 64];
-    let mut turns = MOST;
-    while turns > 0 {
-        let input = read_line();
+    let mut stdin = rt.stdin();
+    for _ in 0..MOST {
+        let input = read_line(&mut stdin)?;
         if input.count == 0 {
             break;
         }
         let line = input.line;
         // A malformed line is counted with the function before it.
         if is_laid_out(&line) && !is_same_function(&first, &line) {
-            print_function(&first, of_function);
+            print_function(&rt, &first, of_function)?;
             of_function = none;
             first = line;
         }
         let is_right = holds(&line);
         of_function = counted(of_function, is_right);
         total = counted(total, is_right);
-        turns -= 1;
     }
-    print_function(&first, of_function);
-    print_tally(total);
+    print_function(&rt, &first, of_function)?;
+    print_tally(&rt, total)
 }

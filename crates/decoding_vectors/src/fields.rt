@@ -41,27 +41,23 @@ fn digit(byte: u8) -> u32 {
 pub(crate) fn number(line: &Line, start: usize, end: usize) -> Field
     requires { end ≤ 187 }
 {
-    let mut at = start;
     let mut value: u32 = 0;
-    while at < end {
+    for at in start..end {
         let d = digit(line[at]);
         if d > 15 {
             return Field::Malformed;
         }
         value = value << 4 | d;
-        at += 1;
     }
     Field::Value(value)
 }
 
 // Whether the columns from a first one to the end of the bytes are blank.
 pub(crate) fn is_blank_from(line: &Line, start: usize) -> bool {
-    let mut at = start;
-    while at < 186 {
+    for at in start..186 {
         if line[at] != b' ' {
             return false;
         }
-        at += 1;
     }
     true
 }
@@ -78,8 +74,7 @@ pub(crate) fn code_of(line: &Line, count: usize) -> Code
     requires { count ≤ 64 }
 {
     let mut bytes = [0; 64];
-    let mut at = 0;
-    while at < count {
+    for at in 0..count {
         let start = 58 + 2 * at;
         let Field::Value(byte) = number(line, start, start + 2) else {
             return Code {
@@ -88,7 +83,6 @@ pub(crate) fn code_of(line: &Line, count: usize) -> Code
             };
         };
         bytes[at] = (byte % 256) as u8;
-        at += 1;
     }
     let is_whole = is_blank_from(line, 58 + 2 * count);
     Code { bytes, is_whole }
@@ -101,8 +95,7 @@ pub(crate) fn pool_of(line: &Line, count: usize) -> Pool
     let mut kinds = [0; 12];
     let mut words = [0; 12];
     let mut is_whole = is_blank_from(line, 58 + 10 * count);
-    let mut at = 0;
-    while at < count {
+    for at in 0..count {
         let start = 58 + 10 * at;
         let kind = number(line, start, start + 2);
         let word = number(line, start + 2, start + 10);
@@ -116,7 +109,6 @@ pub(crate) fn pool_of(line: &Line, count: usize) -> Pool
         } else {
             is_whole = false;
         }
-        at += 1;
     }
     Pool {
         kinds,

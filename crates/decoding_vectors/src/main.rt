@@ -1,6 +1,7 @@
 // Runs vectors from standard input through `decode` of instructions, the two switches of operands and the two loads of const_pool,
 // and counts those that differ, by kind and in all. judge/src/lists/decoding writes the vectors and says how a line is laid out.
 #![tactic(auto)]
+
 mod answers;
 mod fields;
 
@@ -8,7 +9,9 @@ ghost use Rattle.std.specs.Prelude.{◌≤◌};
 
 use crate::answers::Answer;
 use crate::fields::{Field, Line, number};
-use libc::STDOUT_FILENO;
+use reading::read_full;
+use std::io;
+use std::io::Read;
 
 // More lines than any file of vectors has: the loop over them has to end.
 const MOST: u64 = 1_000_000;
@@ -47,12 +50,10 @@ struct Case {
 
 // Whether a line begins with a name of 6 columns.
 fn begins(line: &Line, name: &[u8; 6]) -> bool {
-    let mut at = 0;
-    while at < 6 {
+    for at in 0..6 {
         if line[at] != name[at] {
             return false;
         }
-        at += 1;
     }
     true
 }
@@ -182,10 +183,10 @@ fn holds(line: &Line, kind: u32) -> bool {
 }
 
 // Reads a line. Blanks stand where the input ends early, so that a line that is cut short has no line feed at its end.
-fn read_line() -> Input {
+fn read_line(stdin: &mut impl Read) -> io::Result<Input> {
     let mut line = [b' '; 187];
-    let count = io::read_full(0, &mut line);
-    Input { line, count }
+    let count = read_full(stdin, &mut line)?;
+    Ok(Input { line, count })
 }
 
 // One more, up to a number that no file of vectors reaches.
@@ -211,21 +212,20 @@ fn counted_if(tally: Tally, is_of_kind: bool, is_right: bool) -> Tally {
 }
 
 // Prints a tally.
-fn print_tally(tally: Tally) {
-    io::print_decimal(STDOUT_FILENO, tally.vectors);
-    io::write_all(STDOUT_FILENO, b" vectors, ");
-    io::print_decimal(STDOUT_FILENO, tally.differ);
-    io::write_all(STDOUT_FILENO, b" differ\n");
+fn print_tally(rt: &impl Print, tally: Tally) -> io::Result<()> {
+    let vectors = tally.vectors;
+    let differ = tally.differ;
+    println!(rt; "{vectors} vectors, {differ} differ")
 }
 
 // Prints the tally of a kind after its name.
-fn print_kind(name: &[u8], tally: Tally) {
-    io::write_all(STDOUT_FILENO, name);
-    print_tally(tally);
+fn print_kind(rt: &impl Print, name: &[u8], tally: Tally) -> io::Result<()> {
+    rt.write_all(name)?;
+    print_tally(rt, tally)
 }
 
 // Reads line by line, and prints the tally of each kind and of all. A line of no kind counts among all only.
-fn main() {
+fn main(rt: HostRuntime) -> io::Result<()> {
     let none = Tally {
         vectors: 0,
         differ: 0,
@@ -234,9 +234,9 @@ fn main() {
     let mut switches = none;
     let mut pools = none;
     let mut total = none;
-    let mut turns = MOST;
-    while turns > 0 {
-        let input = read_line();
+    let mut stdin = rt.stdin();
+    for _ in 0..MOST {
+        let input = read_line(&mut stdin)?;
         if input.count == 0 {
             break;
         }
@@ -247,10 +247,9 @@ fn main() {
         switches = counted_if(switches, kind == SWITCH, is_right);
         pools = counted_if(pools, kind == POOL, is_right);
         total = counted(total, is_right);
-        turns -= 1;
     }
-    print_kind(b"decode ", decodes);
-    print_kind(b"switch ", switches);
-    print_kind(b"pool   ", pools);
-    print_tally(total);
+    print_kind(&rt, b"decode ", decodes)?;
+    print_kind(&rt, b"switch ", switches)?;
+    print_kind(&rt, b"pool   ", pools)?;
+    print_tally(&rt, total)
 }

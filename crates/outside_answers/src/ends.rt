@@ -1,6 +1,7 @@
 // How a run ended, as a line. Java leaves the bits of a NaN open; for its answers a NaN is shown as such.
 use printing::{print, print_end};
 use rules::End;
+use std::io;
 use values::Value;
 
 // Whether a run returned a float that is a NaN.
@@ -24,15 +25,13 @@ fn is_nan_double(end: End) -> bool {
 }
 
 // Prints how a run ended, the bits of a NaN only if they are asked for.
-pub(crate) fn print_line(end: End, bits: bool) {
+pub(crate) fn print_line(rt: &impl Print, end: End, bits: bool) -> io::Result<()> {
     if !bits && is_nan_float(end) {
-        print(b"return float nan\n");
-        return;
+        return print(rt, b"return float nan\n");
     }
     if !bits && is_nan_double(end) {
-        print(b"return double nan\n");
-        return;
+        return print(rt, b"return double nan\n");
     }
-    print_end(end);
-    print(b"\n");
+    print_end(rt, end)?;
+    print(rt, b"\n")
 }

@@ -2,9 +2,11 @@
 use crate::samples::Head;
 use crate::tally::{Tally, nothing};
 use crate::walking::walk;
+use std::io;
 
 // The sheet and the presses.
 fn lend_input(
+    rt: &impl Print,
     sheet: &[u8],
     kinds: &mut [u8],
     words: &mut [u32],
@@ -14,16 +16,17 @@ fn lend_input(
     bytes: &[u8],
     answers: &mut [u32],
     head: Head,
-) -> Tally {
+) -> io::Result<Tally> {
     let n = head.sheet;
     let m = head.presses;
     if n > sheet.len() {
-        return nothing();
+        return Ok(nothing());
     }
     if m > bytes.len() {
-        return nothing();
+        return Ok(nothing());
     }
     walk(
+        rt,
         &sheet[..n],
         kinds,
         words,
@@ -38,6 +41,7 @@ fn lend_input(
 
 // The log and the answers.
 fn lend_log(
+    rt: &impl Print,
     sheet: &[u8],
     kinds: &mut [u8],
     words: &mut [u32],
@@ -47,16 +51,17 @@ fn lend_log(
     bytes: &[u8],
     answers: &mut [u32],
     head: Head,
-) -> Tally {
+) -> io::Result<Tally> {
     let n = head.log;
     let m = head.answers;
     if n > log.len() {
-        return nothing();
+        return Ok(nothing());
     }
     if m > answers.len() {
-        return nothing();
+        return Ok(nothing());
     }
     lend_input(
+        rt,
         sheet,
         kinds,
         words,
@@ -71,6 +76,7 @@ fn lend_log(
 
 // The constant pool.
 fn lend_pool(
+    rt: &impl Print,
     sheet: &[u8],
     kinds: &mut [u8],
     words: &mut [u32],
@@ -80,15 +86,16 @@ fn lend_pool(
     bytes: &[u8],
     answers: &mut [u32],
     head: Head,
-) -> Tally {
+) -> io::Result<Tally> {
     let n = head.pool;
     if n > kinds.len() {
-        return nothing();
+        return Ok(nothing());
     }
     if n > words.len() {
-        return nothing();
+        return Ok(nothing());
     }
     lend_log(
+        rt,
         sheet,
         &mut kinds[..n],
         &mut words[..n],
@@ -103,6 +110,7 @@ fn lend_pool(
 
 // The slots, twice.
 pub(crate) fn lend_slots(
+    rt: &impl Print,
     sheet: &[u8],
     kinds: &mut [u8],
     words: &mut [u32],
@@ -112,15 +120,16 @@ pub(crate) fn lend_slots(
     bytes: &[u8],
     answers: &mut [u32],
     head: Head,
-) -> Tally {
+) -> io::Result<Tally> {
     let n = head.slots;
     if n > slots.len() {
-        return nothing();
+        return Ok(nothing());
     }
     if n > others.len() {
-        return nothing();
+        return Ok(nothing());
     }
     lend_pool(
+        rt,
         sheet,
         kinds,
         words,

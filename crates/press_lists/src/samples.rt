@@ -1,6 +1,10 @@
 // The samples on standard input: a head of 80 bytes, then the sheet, the log's words and the presses.
 ghost use Rattle.std.specs.Prelude.{◌≤◌};
 
+use reading::read_full;
+use std::io;
+use std::io::Read;
+
 // How much is lent of each part, and the offset, the depth and the count that a list begins with.
 #[derive(Clone, Copy)]
 pub(crate) struct Head {
@@ -43,10 +47,11 @@ pub(crate) fn read_head(bytes: &[u8; 80]) -> Head {
 }
 
 // Reads the first n bytes.
-pub(crate) fn read_bytes(target: &mut [u8], n: usize) {
+pub(crate) fn read_bytes(stdin: &mut impl Read, target: &mut [u8], n: usize) -> io::Result<()> {
     if n <= target.len() {
-        io::read_full(0, &mut target[..n]);
+        read_full(stdin, &mut target[..n])?;
     }
+    Ok(())
 }
 
 // A byte as a part of a word.
@@ -55,20 +60,19 @@ fn part(byte: u8) -> u32 {
 }
 
 // Reads a word, its high byte first.
-fn read_word() -> u32 {
+fn read_word(stdin: &mut impl Read) -> io::Result<u32> {
     let mut bytes = [0u8; 4];
-    io::read_full(0, &mut bytes);
-    part(bytes[0]) << 24 | part(bytes[1]) << 16 | part(bytes[2]) << 8 | part(bytes[3])
+    read_full(stdin, &mut bytes)?;
+    Ok(part(bytes[0]) << 24 | part(bytes[1]) << 16 | part(bytes[2]) << 8 | part(bytes[3]))
 }
 
 // Reads the first n words.
-pub(crate) fn read_words(target: &mut [u32], n: usize) {
-    let mut i = 0;
-    while i < target.len() {
+pub(crate) fn read_words(stdin: &mut impl Read, target: &mut [u32], n: usize) -> io::Result<()> {
+    for i in 0..target.len() {
         if i >= n {
             break;
         }
-        target[i] = read_word();
-        i += 1;
+        target[i] = read_word(stdin)?;
     }
+    Ok(())
 }

@@ -1,5 +1,6 @@
 // What the presses of lists came to, counted.
 use printing::{print, print_number};
+use std::io;
 
 // How many lists and presses were made, and what the presses came to.
 #[derive(Clone, Copy)]
@@ -26,7 +27,7 @@ pub(crate) fn nothing() -> Tally {
 
 // Two numbers together.
 fn plus(a: u64, b: u64) -> u64 {
-    std::num::wrapping_add_u64(a, b)
+    a.wrapping_add(b)
 }
 
 // Two tallies together.
@@ -70,27 +71,25 @@ fn number_of(answers: &[u32], press: usize) -> u32 {
 pub(crate) fn one_list(bytes: &[u8], answers: &[u32]) -> Tally {
     let mut t = nothing();
     t.lists = 1;
-    let mut i = 0;
-    while i < bytes.len() {
+    for i in 0..bytes.len() {
         t = both(t, one_press(bytes[i], number_of(answers, i)));
-        i += 1;
     }
     t
 }
 
 // Prints a tally.
-pub(crate) fn print_tally(t: Tally) {
-    print(b"lists");
-    print_number(t.lists);
-    print(b" presses");
-    print_number(t.presses);
-    print(b" forwards");
-    print_number(t.forwards);
-    print(b" backs");
-    print_number(t.backs);
-    print(b" refused");
-    print_number(t.refused);
-    print(b" outcomes");
-    print_number(t.outcomes);
-    print(b"\n");
+pub(crate) fn print_tally(rt: &impl Print, t: Tally) -> io::Result<()> {
+    print(rt, b"lists")?;
+    print_number(rt, t.lists)?;
+    print(rt, b" presses")?;
+    print_number(rt, t.presses)?;
+    print(rt, b" forwards")?;
+    print_number(rt, t.forwards)?;
+    print(rt, b" backs")?;
+    print_number(rt, t.backs)?;
+    print(rt, b" refused")?;
+    print_number(rt, t.refused)?;
+    print(rt, b" outcomes")?;
+    print_number(rt, t.outcomes)?;
+    print(rt, b"\n")
 }

@@ -8,39 +8,48 @@ use interpreter::moved;
 use printing::{print, print_number, print_state, print_sum_of_words, print_words};
 use rules::{Load, Loaded, State};
 use sheet::{code_of, handlers_of, load};
+use std::io;
 
 // Prints what a list left.
-fn print_left(s: State, slots: &[u32], log: &[u32], answers: &[u32]) {
-    print_state(s);
-    print_words(b"slots", slots);
-    print_sum_of_words(b"log", log);
-    print_sum_of_words(b"\nwords", answers);
-    print(b"\n");
+fn print_left(
+    rt: &impl Print,
+    s: State,
+    slots: &[u32],
+    log: &[u32],
+    answers: &[u32],
+) -> io::Result<()> {
+    print_state(rt, s)?;
+    print_words(rt, b"slots", slots)?;
+    print_sum_of_words(rt, b"log", log)?;
+    print_sum_of_words(rt, b"\nwords", answers)?;
+    print(rt, b"\n")
 }
 
 // Prints the number that a list came back with, and the answers of its presses.
-fn print_replay(number: u32, presses: usize, answers: &[u32]) {
-    print(b"presses");
-    print_number(number as u64);
-    print(b"\n");
+fn print_replay(rt: &impl Print, number: u32, presses: usize, answers: &[u32]) -> io::Result<()> {
+    print(rt, b"presses")?;
+    print_number(rt, number as u64)?;
+    print(rt, b"\n")?;
     if number == 0 {
-        print_answers(answers, presses);
+        print_answers(rt, answers, presses)
     } else {
-        print_answers(answers, 0);
+        print_answers(rt, answers, 0)
     }
 }
 
 // Prints the refusal of a sheet.
-fn print_refusal(answer: Load) {
+fn print_refusal(rt: &impl Print, answer: Load) -> io::Result<()> {
     if let Load::Refused(n) = answer {
-        print(b"sheet");
-        print_number(n as u64);
-        print(b"\n");
+        print(rt, b"sheet")?;
+        print_number(rt, n as u64)?;
+        print(rt, b"\n")?;
     }
+    Ok(())
 }
 
 // Makes the presses, and prints what they came to.
 fn press_loaded(
+    rt: &impl Print,
     code: &[u8],
     kinds: &[u8],
     words: &[u32],
@@ -50,14 +59,14 @@ fn press_loaded(
     begin: State,
     bytes: &[u8],
     answers: &mut [u32],
-) -> Replay {
+) -> io::Result<Replay> {
     let replay = presses(
         code, kinds, words, handlers, slots, log, begin, bytes, answers,
     );
-    print_replay(replay.number, bytes.len(), answers);
+    print_replay(rt, replay.number, bytes.len(), answers)?;
     let left = replay.state;
-    print_left(left, slots, log, answers);
-    replay
+    print_left(rt, left, slots, log, answers)?;
+    Ok(replay)
 }
 
 // The presses of a list, unless it was refused as a whole.
@@ -71,6 +80,7 @@ fn counted(number: u32, bytes: &[u8], answers: &[u32]) -> Tally {
 
 // Makes the presses from the head's offset, depth and count on, and runs beside them.
 fn press_from(
+    rt: &impl Print,
     sheet: &[u8],
     loaded: Loaded,
     kinds: &mut [u8],
@@ -81,25 +91,26 @@ fn press_from(
     bytes: &[u8],
     answers: &mut [u32],
     head: Head,
-) -> Tally {
+) -> io::Result<Tally> {
     let answer = loaded.answer;
     let Load::Accepted = answer else {
-        print_refusal(answer);
-        return nothing();
+        print_refusal(rt, answer)?;
+        return Ok(nothing());
     };
     let begin = moved(loaded.state, head.pc, head.depth, head.count);
     let code = code_of(sheet, loaded);
     let handlers = handlers_of(sheet, loaded);
     let replay = press_loaded(
-        code, kinds, words, handlers, slots, log, begin, bytes, answers,
-    );
+        rt, code, kinds, words, handlers, slots, log, begin, bytes, answers,
+    )?;
     let left = replay.state;
-    run_beside(sheet, kinds, words, others, slots, left, head);
-    counted(replay.number, bytes, answers)
+    run_beside(rt, sheet, kinds, words, others, slots, left, head)?;
+    Ok(counted(replay.number, bytes, answers))
 }
 
 // Loads a sheet, and makes the presses on what it left.
 pub(crate) fn walk(
+    rt: &impl Print,
     sheet: &[u8],
     kinds: &mut [u8],
     words: &mut [u32],
@@ -109,9 +120,9 @@ pub(crate) fn walk(
     bytes: &[u8],
     answers: &mut [u32],
     head: Head,
-) -> Tally {
+) -> io::Result<Tally> {
     let loaded = load(sheet, slots, kinds, words);
     press_from(
-        sheet, loaded, kinds, words, slots, others, log, bytes, answers, head,
+        rt, sheet, loaded, kinds, words, slots, others, log, bytes, answers, head,
     )
 }

@@ -1,47 +1,47 @@
 // Text on standard output, piece by piece, for the programs.
 #![tactic(auto)]
+
 mod lines;
 mod sums;
 mod walks;
 
 ghost use Rattle.std.specs.Prelude.{◌≡◌};
 
-use libc::STDOUT_FILENO;
 pub use lines::{print_state, print_words};
+use std::io;
 pub use sums::{print_sum_of_bytes, print_sum_of_words};
 pub use walks::{print_decision, print_end, print_header, print_step};
 
 // Prints some bytes.
-pub fn print(text: &[u8])
+pub fn print(rt: &impl Print, text: &[u8]) -> io::Result<()>
     ensures { text.now ≡ text.now }
 {
-    io::write_all(STDOUT_FILENO, text);
+    rt.write_all(text)
 }
 
 // Prints a byte.
-fn print_byte(byte: u8) {
+fn print_byte(rt: &impl Print, byte: u8) -> io::Result<()> {
     let text = [byte; 1];
-    print(&text);
+    print(rt, &text)
 }
 
 // Prints bytes up to the first blank.
-pub fn print_word(text: &[u8])
+pub fn print_word(rt: &impl Print, text: &[u8]) -> io::Result<()>
     ensures { text.now ≡ text.now }
 {
-    let mut i = 0;
-    while i < text.len() {
-        if text[i] == b' ' {
+    for byte in text {
+        if *byte == b' ' {
             break;
         }
-        print_byte(text[i]);
-        i += 1;
+        print_byte(rt, *byte)?;
     }
+    Ok(())
 }
 
 // Prints a number in decimal, with a blank before it.
-pub fn print_number(n: u64) {
-    print(b" ");
-    io::print_decimal(STDOUT_FILENO, n);
+pub fn print_number(rt: &impl Print, n: u64) -> io::Result<()> {
+    print(rt, b" ")?;
+    rt.print(n)
 }
 
 // An upper-case hexadecimal digit.
@@ -51,18 +51,17 @@ fn digit(value: u64) -> u8 {
 }
 
 // Prints the low digits of a number in hexadecimal, at most 16.
-pub fn print_digits(n: u64, digits: u32) {
-    let mut i: u32 = 0;
-    while i < 16 {
+pub fn print_digits(rt: &impl Print, n: u64, digits: u32) -> io::Result<()> {
+    for i in 0..16u32 {
         if 16 - i <= digits {
-            print_byte(digit(n >> 60 - 4 * i));
+            print_byte(rt, digit(n >> 60 - 4 * i))?;
         }
-        i += 1;
     }
+    Ok(())
 }
 
 // The same, with a blank before them.
-pub fn print_hex(n: u64, digits: u32) {
-    print_byte(b' ');
-    print_digits(n, digits);
+pub fn print_hex(rt: &impl Print, n: u64, digits: u32) -> io::Result<()> {
+    print_byte(rt, b' ')?;
+    print_digits(rt, n, digits)
 }

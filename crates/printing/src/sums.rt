@@ -2,6 +2,7 @@
 ghost use Rattle.std.specs.Prelude.{◌≡◌};
 
 use crate::{print, print_hex};
+use std::io;
 
 // A checksum with one more number.
 fn more(sum: u32, x: u32) -> u32 {
@@ -14,33 +15,29 @@ fn wide(byte: u8) -> u32 {
 }
 
 // Prints a checksum.
-fn print_sum(name: &[u8], sum: u32) {
-    print(name);
-    print_hex(sum as u64, 8);
+fn print_sum(rt: &impl Print, name: &[u8], sum: u32) -> io::Result<()> {
+    print(rt, name)?;
+    print_hex(rt, sum as u64, 8)
 }
 
 // Prints the checksum of bytes.
-pub fn print_sum_of_bytes(name: &[u8], bytes: &[u8])
+pub fn print_sum_of_bytes(rt: &impl Print, name: &[u8], bytes: &[u8]) -> io::Result<()>
     ensures { (name.now ≡ name.now) × (bytes.now ≡ bytes.now) }
 {
     let mut sum = 0;
-    let mut i = 0;
-    while i < bytes.len() {
-        sum = more(sum, wide(bytes[i]));
-        i += 1;
+    for byte in bytes {
+        sum = more(sum, wide(*byte));
     }
-    print_sum(name, sum);
+    print_sum(rt, name, sum)
 }
 
 // Prints the checksum of words.
-pub fn print_sum_of_words(name: &[u8], words: &[u32])
+pub fn print_sum_of_words(rt: &impl Print, name: &[u8], words: &[u32]) -> io::Result<()>
     ensures { (name.now ≡ name.now) × (words.now ≡ words.now) }
 {
     let mut sum = 0;
-    let mut i = 0;
-    while i < words.len() {
-        sum = more(sum, words[i]);
-        i += 1;
+    for word in words {
+        sum = more(sum, *word);
     }
-    print_sum(name, sum);
+    print_sum(rt, name, sum)
 }

@@ -6,32 +6,26 @@ fn kind_at(i: usize) -> u8 {
 
 // A word of junk.
 fn word_at(first: u32, i: usize) -> u32 {
-    std::num::wrapping_add_u32(first, (i % 0x1_0000_0000) as u32)
+    first.wrapping_add((i % 0x1_0000_0000) as u32)
 }
 
 // Junk over all kinds.
 pub(crate) fn fill_kinds(kinds: &mut [u8]) {
-    let mut i = 0;
-    while i < kinds.len() {
+    for i in 0..kinds.len() {
         kinds[i] = kind_at(i);
-        i += 1;
     }
 }
 
 // Junk over all words.
 pub(crate) fn fill_words(words: &mut [u32]) {
-    let mut i = 0;
-    while i < words.len() {
+    for i in 0..words.len() {
         words[i] = word_at(0xDEAD_0000, i);
-        i += 1;
     }
 }
 
 // Junk over all slots.
 pub(crate) fn fill_slots(slots: &mut [u32]) {
-    let mut i = 0;
-    while i < slots.len() {
+    for i in 0..slots.len() {
         slots[i] = word_at(0xBEEF_0000, i);
-        i += 1;
     }
 }

@@ -1,23 +1,24 @@
 // What is printed of a load.
 use printing::{print, print_number};
 use rules::{Load, Loaded};
+use std::io;
 
 // Prints what a load answers.
-pub(crate) fn print_load(loaded: Loaded) {
+pub(crate) fn print_load(rt: &impl Print, loaded: Loaded) -> io::Result<()> {
     let answer = loaded.answer;
     match answer {
         Load::Accepted => {
-            print(b" accepted");
-            print_number(loaded.state.max_stack as u64);
-            print_number(loaded.state.max_locals as u64);
-            print_number(loaded.code as u64);
-            print_number(loaded.code_length as u64);
-            print_number(loaded.handlers as u64);
-            print_number(loaded.handlers_length as u64);
+            print(rt, b" accepted")?;
+            print_number(rt, loaded.state.max_stack as u64)?;
+            print_number(rt, loaded.state.max_locals as u64)?;
+            print_number(rt, loaded.code as u64)?;
+            print_number(rt, loaded.code_length as u64)?;
+            print_number(rt, loaded.handlers as u64)?;
+            print_number(rt, loaded.handlers_length as u64)
         }
         Load::Refused(n) => {
-            print(b" refused");
-            print_number(n as u64);
+            print(rt, b" refused")?;
+            print_number(rt, n as u64)
         }
     }
 }

@@ -1,6 +1,10 @@
 // The samples on standard input: a head of 56 bytes, and then the sheet.
 ghost use Rattle.std.specs.Prelude.{◌≤◌};
 
+use reading::read_full;
+use std::io;
+use std::io::Read;
+
 // How many slots, kinds and words are lent, and how many bytes the sheet has.
 #[derive(Clone, Copy)]
 pub(crate) struct Head {
@@ -33,8 +37,9 @@ pub(crate) fn read_head(bytes: &[u8; 56]) -> Head {
 }
 
 // Reads the first n bytes of a sheet.
-pub(crate) fn read_sheet(sheet: &mut [u8], n: usize) {
+pub(crate) fn read_sheet(stdin: &mut impl Read, sheet: &mut [u8], n: usize) -> io::Result<()> {
     if n <= sheet.len() {
-        io::read_full(0, &mut sheet[..n]);
+        read_full(stdin, &mut sheet[..n])?;
     }
+    Ok(())
 }

@@ -38,10 +38,8 @@ fn number(line: &Line, start: usize, columns: usize) -> u64
     requires { start + columns ≤ 496 }
 {
     let mut value: u64 = 0;
-    let mut i = 0;
-    while i < columns {
+    for i in 0..columns {
         value = value << 4 | digit(line[start + i]);
-        i += 1;
     }
     value
 }
@@ -70,10 +68,8 @@ fn number8(line: &Line, start: usize) -> u8
 // The code's bytes.
 fn code_of(line: &Line) -> [u8; 64] {
     let mut code = [0; 64];
-    let mut i = 0;
-    while i < 64 {
+    for i in 0..64 {
         code[i] = number8(line, 44 + 2 * i);
-        i += 1;
     }
     code
 }
@@ -81,10 +77,8 @@ fn code_of(line: &Line) -> [u8; 64] {
 // The kinds of the pool.
 fn kinds_of(line: &Line) -> [u8; 8] {
     let mut kinds = [0; 8];
-    let mut i = 0;
-    while i < 8 {
+    for i in 0..8 {
         kinds[i] = number8(line, 175 + 2 * i);
-        i += 1;
     }
     kinds
 }
@@ -92,10 +86,8 @@ fn kinds_of(line: &Line) -> [u8; 8] {
 // The words of the pool.
 fn words_of(line: &Line) -> [u32; 8] {
     let mut words = [0; 8];
-    let mut i = 0;
-    while i < 8 {
+    for i in 0..8 {
         words[i] = number32(line, 194 + 8 * i);
-        i += 1;
     }
     words
 }
@@ -103,10 +95,8 @@ fn words_of(line: &Line) -> [u32; 8] {
 // The handlers' bytes.
 fn handlers_of(line: &Line) -> [u8; 40] {
     let mut handlers = [0; 40];
-    let mut i = 0;
-    while i < 40 {
+    for i in 0..40 {
         handlers[i] = number8(line, 262 + 2 * i);
-        i += 1;
     }
     handlers
 }
@@ -114,10 +104,8 @@ fn handlers_of(line: &Line) -> [u8; 40] {
 // The slots.
 fn slots_of(line: &Line) -> [u32; 12] {
     let mut slots = [0; 12];
-    let mut i = 0;
-    while i < 12 {
+    for i in 0..12 {
         slots[i] = number32(line, 345 + 8 * i);
-        i += 1;
     }
     slots
 }
