@@ -18,8 +18,6 @@ fn main() {
     }
     println!("cargo::rustc-link-search=native={}", folder.display());
     println!("cargo::rustc-link-lib=static=workbook");
-    // The archive calls fmod and fmodf.
-    println!("cargo::rustc-link-lib=dylib=m");
     // DEP_WORKBOOK_INCLUDE, for the build script of a package that compiles C over this one.
     println!("cargo::metadata=include={}", root.join("include").display());
 }

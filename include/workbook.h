@@ -1,7 +1,7 @@
 /*
  * The exported library: a Java method, stepped forward and back.
  *
- * Link with target/staticlib/libworkbook.a and -lm.
+ * Link with target/staticlib/libworkbook.a.
  *
  * All memory is the caller's and is lent for the time of a call: nothing is
  * kept. A lent part is a pointer and a length, counted in elements. Pointers

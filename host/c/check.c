@@ -1,7 +1,7 @@
 /*
  * Checks include/workbook.h against the library, at its boundary.
  *
- *   cc -std=c99 -Wall -Wextra -Iinclude host/c/check.c target/staticlib/libworkbook.a -lm -o check
+ *   cc -std=c99 -Wall -Wextra -Iinclude host/c/check.c target/staticlib/libworkbook.a -o check
  *   ./check
  *
  * All lent memory lies in one struct, with guard elements around every part. `have` is what is lent, `want` what it should

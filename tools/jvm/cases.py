@@ -92,7 +92,7 @@ def pack(cases, mark=0):
 def build_walk(program):
     library = ROOT / "target" / "staticlib" / "libworkbook.a"
     source = ROOT / "tools" / "jvm" / "walk.c"
-    subprocess.run(["cc", "-std=c99", "-O2", "-Wall", "-Wextra", "-Werror", f"-I{ROOT / 'include'}", source, library, "-lm", "-o", program], check=True)
+    subprocess.run(["cc", "-std=c99", "-O2", "-Wall", "-Wextra", "-Werror", f"-I{ROOT / 'include'}", source, library, "-o", program], check=True)
 
 
 def walked(folder, cases, *option):

@@ -1,4 +1,4 @@
-// Doubles as 64-bit words: one operation of IEEE 754 between two converters, the only places where a NaN is treated apart.
+// Doubles as 64-bit words: one operation of IEEE 754 between two converters, the only places where a NaN is treated apart but for the remainder.
 ghost use Rattle.std.specs.Prelude.{◌≡◌, pos};
 ghost use Rattle.std.specs.Float.Ieee as Ieee;
 ghost use Rattle.std.specs.Float.{binary64};

@@ -1,4 +1,4 @@
-// Floats as 32-bit words: one operation of IEEE 754 between two converters, the only places where a NaN is treated apart.
+// Floats as 32-bit words: one operation of IEEE 754 between two converters, the only places where a NaN is treated apart but for the remainder.
 ghost use Rattle.std.specs.Prelude.{◌≡◌, pos};
 ghost use Rattle.std.specs.Float.Ieee as Ieee;
 ghost use Rattle.std.specs.Float.{binary32};
