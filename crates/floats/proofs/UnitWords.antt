@@ -1,6 +1,6 @@
 -- Remainders in units, on plain numbers: digits moved up, and the words of units. Assumes nothing.
 use Rattle.std.proofs.Common.{◌≡◌, ℕ, zero, suc, ◌+◌, ◌-◌, ◌*◌, ◌/◌, ◌%◌, ◌^◌, ◌<◌, ◌≤◌, inl, inr, Bool, true, false, cond, ltb, refl, sym, ap, ◌∙◌, subst, arith}
-use Rattle.std.proofs.Math.Nat.{mul_assoc, mul_comm, mul-one, mul-le-mul, mul-lt-mul_of_pos_right, pow-le-pow_right, lt_of_lt_of_le, mul-div_cancel, mul-mod_left, add-zero, div-eq_of_lt, div-add-mod, mod-lt, mod-eq_of_lt}
+use Rattle.std.proofs.Math.Nat.{mul_assoc, mul_comm, mul-le-mul, mul-lt-mul_of_pos_right, pow-le-pow_right, lt_of_lt_of_le, mul-div_cancel, mul-mod_left, add-zero, div-eq_of_lt, div-add-mod, mod-lt, mod-eq_of_lt}
 use Rattle.std.proofs.Math.Arith.{mod-mul}
 use Rattle.std.proofs.Math.Pow.{pow-add, pow_pos}
 use Rattle.std.proofs.lemmas.Nat.{mul-mod_first}
@@ -8,9 +8,6 @@ use borrow.Author.Tests.{ltb-true, ltb-false, lt-ltb, le-ltb}
 use Rattle.floats.specs.Remainder.{digits_of, place_of, units_of, IsWordOf}
 
 -- ---- a remainder of digits that are moved up
-
-pub moved_none : (m n : ℕ) → m % n ≡ m * 2 ^ 0 % n
-moved_none m n = ap (λ (x : ℕ). x % n) (sym (mul-one m))
 
 pub moved_on : (m n i rest : ℕ) → rest ≡ m * 2 ^ i % n → rest * 2 % n ≡ m * 2 ^ (i + 1) % n
 moved_on m n i rest e =

@@ -1,9 +1,13 @@
--- The loop stops where the buffer is full, and each read fills more of it.
-use Rattle.std.proofs.Common.{length, ◌-◌, ◌≤◌}
+-- The loop stops where the buffer is full, and each read fills more of it; what it filled is what the input gave.
+use Rattle.std.proofs.Common.{length, take, ◌-◌, ◌≤◌}
+use Rattle.std.specs.Io.KnownBytes.{Consumes}
 use Rattle.reading.proofs.read_full.Given as goal
 
 abbrev pub invariant-loop-count : goal.invariant-loop-count
-invariant-loop-count g l = l.count ≤ length l.buffer
+invariant-loop-count g l = record {
+  within : l.count ≤ length l.buffer;
+  bytes : Consumes (g.R.Read.remaining l.initial.input) (g.R.Read.remaining l.input) (take l.count l.buffer);
+}
 
 abbrev pub decreases-loop-count : goal.decreases-loop-count
 decreases-loop-count g l = length l.initial.buffer - l.count
