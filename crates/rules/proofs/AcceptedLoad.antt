@@ -8,19 +8,22 @@ use lib.Dec.{leb}
 use lib.ListN.{length, take, drop, length-set, length-append, length-drop, length-replicate}
 use lib.Seq.{length-take-le, take_at, drop_at}
 use borrow.Author.Tests.{leb-true, le-leb, eqb-true}
-use Rattle.rules.specs.declared.Reading.{Reading}
-use Rattle.rules.specs.declared.State.{State}
-use Rattle.rules.specs.declared.Load.TheVariants as Load
-use Rattle.rules.specs.declared.Loaded.{Loaded}
-use Rattle.rules.specs.Check.{Check, passed, refused, ◌>>=◌, ◌>>◌}
+use Rattle.rules.specs.declared.sheets.Reading.{Reading}
+use Rattle.rules.specs.declared.states.State.{State}
+use Rattle.rules.specs.declared.sheets.Loaded.{Loaded}
+use Rattle.rules.specs.Check.{Check, ◌>>=◌, ◌>>◌}
 use Rattle.rules.specs.Fetch.{u8}
 use Rattle.rules.specs.Questions.{method}
 use Rattle.rules.specs.Step.{frame}
-use Rattle.rules.specs.Sheet.{record_end, is_wide, sheet_check, memory_check, Pool, with_words, with_value, pool_from, loaded_pool, arguments_from, loaded_frame, loaded_slots, loaded_state, handlers_length, accepted_load, load_by, load_of, code_of, handlers_of}
+use Rattle.rules.specs.Sheet.{last_number, record_end, is_wide, sheet_check, memory_check, Pool, with_words, with_value, pool_from, loaded_pool, arguments_from, loaded_frame, loaded_slots, loaded_state, handlers_length, accepted_load, load_by, load_of, code_of, handlers_of}
+use Rattle.rules.proofs.RefusalNumbers.{number_above}
 use Rattle.rules.proofs.Check.{first_passed, last_passed}
 use Rattle.rules.proofs.Questions.{Framed}
-use Rattle.rules.proofs.Sheet.{sheet_numbered, memory_above, load_accepted}
+use Rattle.rules.proofs.Sheet.{load_accepted}
 use Rattle.rules.proofs.Placement.{Within, sheet_within}
+use Rattle.std.specs.Prelude.{Ok, Err}
+use Rattle.rules.specs.declared.refusals.Refusal.{Refusal}
+use Rattle.rules.specs.Refusals.{number_of}
 
 -- ---- lengths
 
@@ -59,7 +62,7 @@ length_arguments sheet at (suc n) = ap suc (length_arguments sheet (at + 4) n)
 
 -- ---- an accepted load
 
-module _ (sheet slots kinds words : List ℕ) (bytes : (i : ℕ) → u8 sheet i < 256) (p : Reading) (read : sheet_check sheet ≡ passed p) (fits : memory_check p slots kinds words ≡ passed tt) where
+module _ (sheet slots kinds words : List ℕ) (bytes : (i : ℕ) → u8 sheet i < 256) (p : Reading) (read : sheet_check sheet ≡ Ok p) (fits : memory_check p slots kinds words ≡ Ok tt) where
   abbrev state : State
   state = loaded_state p.max_stack p.max_locals p.return_type
 
@@ -69,7 +72,7 @@ module _ (sheet slots kinds words : List ℕ) (bytes : (i : ℕ) → u8 sheet i 
   within : Within sheet p
   within = (sheet_within sheet p read).0
 
-  last : p.last ≡ 6
+  last : last_number p.last ≡ 6
   last = (sheet_within sheet p read).1
 
   code_there : p.code + p.code_length ≤ length sheet
@@ -103,11 +106,11 @@ module _ (sheet slots kinds words : List ℕ) (bytes : (i : ℕ) → u8 sheet i 
   unfolding memory_check
   loaded_framed =
       let e = last in
-      let a = first_passed _ 26 _ fits in
-      let b = first_passed _ 26 _ a.1 in
-      let c = first_passed _ 26 _ b.1 in
+      let a = first_passed _ _ _ fits in
+      let b = first_passed _ _ _ a.1 in
+      let c = first_passed _ _ _ b.1 in
       let paired = eqb-true (length kinds) (length words) c.0 in
-      let few = leb-true (length kinds) 65536 (last_passed _ 26 c.1) in
+      let few = leb-true (length kinds) 65536 (last_passed _ _ c.1) in
       let room = leb-true (p.max_locals + p.max_stack) (length slots) a.0 in
       let k : length (loaded_pool sheet p kinds words).kinds ≡ length kinds = pool_kinds _ sheet _ _ _ ∙ length-replicate (length kinds) 0 in
       let w : length (loaded_pool sheet p kinds words).words ≡ length words = pool_words _ sheet _ _ _ ∙ length-replicate (length words) 0 in
@@ -125,23 +128,23 @@ module _ (sheet slots kinds words : List ℕ) (bytes : (i : ℕ) → u8 sheet i 
 
 pub record Read (sheet slots kinds words : List ℕ) : Type 0 where
   pub reading : Reading
-  pub read : sheet_check sheet ≡ passed reading
-  pub fits : memory_check reading slots kinds words ≡ passed tt
+  pub read : sheet_check sheet ≡ Ok reading
+  pub fits : memory_check reading slots kinds words ≡ Ok tt
 
 module _ (sheet slots kinds words : List ℕ) where
-  by_memory : (p : Reading) → sheet_check sheet ≡ passed p → (x : Check (Unit {0})) → memory_check p slots kinds words ≡ x
-      → (load_by sheet slots kinds words (x >> passed p)).loaded.answer ≡ Load.Accepted → Read sheet slots kinds words
+  by_memory : (p : Reading) → sheet_check sheet ≡ Ok p → (x : Check (Unit {0})) → memory_check p slots kinds words ≡ x
+      → (load_by sheet slots kinds words (x >> Ok p)).loaded.answer ≡ Ok tt → Read sheet slots kinds words
   unfolding ◌>>◌
-  by_memory p q (passed t) m h = record { reading = p; read = q; fits = m }
-  by_memory p q (refused k) m h = let z : ◌≡◌ {A = ℕ} 0 1 = cc in absurd (omega arith)
+  by_memory p q (Ok t) m h = record { reading = p; read = q; fits = m }
+  by_memory p q (Err k) m h = let z : ◌≡◌ {A = ℕ} 0 1 = cc in absurd (omega arith)
 
-  pub was_read : (load_of sheet slots kinds words).loaded.answer ≡ Load.Accepted → Read sheet slots kinds words
+  pub was_read : (load_of sheet slots kinds words).loaded.answer ≡ Ok tt → Read sheet slots kinds words
   unfolding load_of ◌>>=◌
   was_read h = go (sheet_check sheet) refl h
     where
-      go : (x : Check Reading) → sheet_check sheet ≡ x → (load_by sheet slots kinds words (x >>= λ p. memory_check p slots kinds words >> passed p)).loaded.answer ≡ Load.Accepted → Read sheet slots kinds words
-      go (passed p) q k = by_memory p q (memory_check p slots kinds words) refl k
-      go (refused m) q k = let z : ◌≡◌ {A = ℕ} 0 1 = cc in absurd (omega arith)
+      go : (x : Check Reading) → sheet_check sheet ≡ x → (load_by sheet slots kinds words (x >>= λ p. memory_check p slots kinds words >> Ok p)).loaded.answer ≡ Ok tt → Read sheet slots kinds words
+      go (Ok p) q k = by_memory p q (memory_check p slots kinds words) refl k
+      go (Err m) q k = let z : ◌≡◌ {A = ℕ} 0 1 = cc in absurd (omega arith)
 
 -- ---- what an accepted load says: where code and handlers lie, and its sizes
 
@@ -151,17 +154,17 @@ pub record Said (sheet : List ℕ) (x : Loaded) : Type 0 where
   pub is_part : code_of sheet x ≡ take x.code_length (drop x.code sheet)
   -- at most 65,535 constants of fifteen bytes stand between the code's end and the handlers
   pub handlers_near : x.handlers ≤ 1114111
-  pub handlers_long : (p : Reading) → sheet_check sheet ≡ passed p → x.handlers_length ≡ handlers_length p
+  pub handlers_long : (p : Reading) → sheet_check sheet ≡ Ok p → x.handlers_length ≡ handlers_length p
   pub handlers_part : handlers_of sheet x ≡ take x.handlers_length (drop x.handlers sheet)
   pub small_stack : x.state.max_stack ≤ 65535
   pub small_locals : x.state.max_locals ≤ 65535
 
-pub accepted_said : (sheet slots kinds words : List ℕ) → ((i : ℕ) → u8 sheet i < 256) → (load_of sheet slots kinds words).loaded.answer ≡ Load.Accepted → Said sheet (load_of sheet slots kinds words).loaded
+pub accepted_said : (sheet slots kinds words : List ℕ) → ((i : ℕ) → u8 sheet i < 256) → (load_of sheet slots kinds words).loaded.answer ≡ Ok tt → Said sheet (load_of sheet slots kinds words).loaded
 accepted_said sheet slots kinds words bytes h =
     let r = was_read sheet slots kinds words h in
     let p = r.reading in
     let (w, last) = sheet_within sheet p r.read in
-    let read_whole : 3 ≤ p.last = omega arith in
+    let read_whole : 3 ≤ last_number p.last = omega arith in
     rw (← load_accepted sheet slots kinds words p r.read r.fits (loaded_pool sheet p kinds words) refl)
     (record {
       starts = w.code_near bytes read_whole;
@@ -175,14 +178,5 @@ accepted_said sheet slots kinds words bytes h =
     })
 
 -- a load that is refused is refused with a number above 0
-pub refused_above : (sheet slots kinds words : List ℕ) (k : ℕ) → (load_of sheet slots kinds words).loaded.answer ≡ Load.Refused k → 0 < k
-unfolding load_of ◌>>=◌ ◌>>◌
-refused_above sheet slots kinds words k h = go (sheet_check sheet) refl h
-  where
-    by_memory : (p : Reading) (x : Check (Unit {0})) → memory_check p slots kinds words ≡ x → (load_by sheet slots kinds words (x >> passed p)).loaded.answer ≡ Load.Refused k → 0 < k
-    by_memory p (passed t) m e = let z : ◌≡◌ {A = ℕ} 0 1 = cc in absurd (omega arith)
-    by_memory p (refused n) m e = let q : n ≡ k = cc in omega (arith, memory_above p slots kinds words n m)
-
-    go : (x : Check Reading) → sheet_check sheet ≡ x → (load_by sheet slots kinds words (x >>= λ p. memory_check p slots kinds words >> passed p)).loaded.answer ≡ Load.Refused k → 0 < k
-    go (passed p) q e = by_memory p (memory_check p slots kinds words) refl e
-    go (refused n) q e = let s : n ≡ k = cc in omega (arith, sheet_numbered sheet n q)
+pub refused_above : (sheet slots kinds words : List ℕ) (k : Refusal) → (load_of sheet slots kinds words).loaded.answer ≡ Err k → 0 < number_of k
+refused_above sheet slots kinds words k h = number_above k

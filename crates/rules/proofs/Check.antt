@@ -4,32 +4,34 @@ use mathlib.Core.Path.{◌≡◌, refl}
 use mathlib.Core.Bool.{Bool, true, false, ◌&&◌, ◌||◌, cond}
 use mathlib.Core.Logic.{◌⊎◌, inl, inr}
 use native.Mathlib.Omega.{arith}
-use Rattle.rules.specs.Check.{Check, passed, refused, ◌else◌, ◌>>=◌, ◌>>◌, is_passed}
+use Rattle.rules.specs.Check.{Check, ◌else◌, ◌>>=◌, ◌>>◌, is_passed}
+use Rattle.std.specs.Prelude.{Ok, Err}
+use Rattle.rules.specs.declared.refusals.Refusal.{Refusal}
 
 -- a row that is passed has a yes at each question
-pub first_passed : (t : Bool) (n : ℕ) (x : Check (Unit {0})) → ((t else n) >> x) ≡ passed tt → (t ≡ true) × (x ≡ passed tt)
+pub first_passed : (t : Bool) (n : Refusal) (x : Check (Unit {0})) → ((t else n) >> x) ≡ Ok tt → (t ≡ true) × (x ≡ Ok tt)
 unfolding ◌else◌ ◌>>◌
 first_passed true n x e = (refl, e)
 first_passed false n x e = let z : ◌≡◌ {A = ℕ} 0 1 = cc in absurd (omega arith)
 
-pub both_passed : (y x : Check (Unit {0})) → (y >> x) ≡ passed tt → (y ≡ passed tt) × (x ≡ passed tt)
+pub both_passed : (y x : Check (Unit {0})) → (y >> x) ≡ Ok tt → (y ≡ Ok tt) × (x ≡ Ok tt)
 unfolding ◌>>◌
-both_passed (passed t) x e = (refl, e)
-both_passed (refused n) x e = let z : ◌≡◌ {A = ℕ} 0 1 = cc in absurd (omega arith)
+both_passed (Ok t) x e = (refl, e)
+both_passed (Err n) x e = let z : ◌≡◌ {A = ℕ} 0 1 = cc in absurd (omega arith)
 
-pub last_passed : (t : Bool) (n : ℕ) → (t else n) ≡ passed tt → t ≡ true
+pub last_passed : (t : Bool) (n : Refusal) → (t else n) ≡ Ok tt → t ≡ true
 unfolding ◌else◌
 last_passed true n e = refl
 last_passed false n e = let z : ◌≡◌ {A = ℕ} 0 1 = cc in absurd (omega arith)
 
-pub last_asked : (t : Bool) (n : ℕ) → t ≡ is_passed (t else n)
+pub last_asked : (t : Bool) (n : Refusal) → t ≡ is_passed (t else n)
 unfolding ◌else◌
 last_asked true n = refl
 last_asked false n = refl
 
-pub is_passed_lem : (x : Check (Unit {0})) → is_passed x ≡ true → x ≡ passed tt
-is_passed_lem (passed t) e = refl
-is_passed_lem (refused n) e = let z : ◌≡◌ {A = ℕ} 0 1 = cc in absurd (omega arith)
+pub is_passed_lem : (x : Check (Unit {0})) → is_passed x ≡ true → x ≡ Ok tt
+is_passed_lem (Ok t) e = refl
+is_passed_lem (Err n) e = let z : ◌≡◌ {A = ℕ} 0 1 = cc in absurd (omega arith)
 
 pub and_true : (a b : Bool) → (a && b) ≡ true → (a ≡ true) × (b ≡ true)
 and_true true b e = (refl, e)
@@ -50,32 +52,32 @@ cases P false x y h k = k refl
 
 pub bind_same : {A B : Type 0} (y : Check B) (f g : B → Check A) → ((b : B) → f b ≡ g b) → (y >>= f) ≡ (y >>= g)
 unfolding ◌>>=◌
-bind_same (passed b) f g h = h b
-bind_same (refused n) f g h = refl
+bind_same (Ok b) f g h = h b
+bind_same (Err n) f g h = refl
 
 -- ---- what holds of what passes
 
 module _ {A : Type 0} (P : A → Type 0) where
   unfoldable pub Holds : Check A → Type 0
-  Holds (passed a) = P a
-  Holds (refused n) = Unit {0}
+  Holds (Ok a) = P a
+  Holds (Err n) = Unit {0}
 
-  pub asked : (t : Bool) (n : ℕ) (x : Check A) → (t ≡ true → Holds x) → Holds ((t else n) >> x)
+  pub asked : (t : Bool) (n : Refusal) (x : Check A) → (t ≡ true → Holds x) → Holds ((t else n) >> x)
   unfolding Holds ◌else◌ ◌>>◌
   asked true n x h = h refl
   asked false n x h = tt
 
-  pub after : (y : Check (Unit {0})) (x : Check A) → (y ≡ passed tt → Holds x) → Holds (y >> x)
+  pub after : (y : Check (Unit {0})) (x : Check A) → (y ≡ Ok tt → Holds x) → Holds (y >> x)
   unfolding Holds ◌>>◌
-  after (passed u) x h = h refl
-  after (refused n) x h = tt
+  after (Ok u) x h = h refl
+  after (Err n) x h = tt
 
-  pub bound : {B : Type 0} (y : Check B) (f : B → Check A) → ((b : B) → y ≡ passed b → Holds (f b)) → Holds (y >>= f)
+  pub bound : {B : Type 0} (y : Check B) (f : B → Check A) → ((b : B) → y ≡ Ok b → Holds (f b)) → Holds (y >>= f)
   unfolding Holds ◌>>=◌
-  bound (passed b) f h = h b refl
-  bound (refused n) f h = tt
+  bound (Ok b) f h = h b refl
+  bound (Err n) f h = tt
 
-  pub held : (y : Check A) (a : A) → Holds y → y ≡ passed a → P a
+  pub held : (y : Check A) (a : A) → Holds y → y ≡ Ok a → P a
   unfolding Holds
   held y a h e = rw e at h
 
@@ -88,12 +90,12 @@ module _ {A : Type 0} (P : A → Type 0) where
 abbrev pub Any : {A : Type 0} → A → Type 0
 Any a = Unit {0}
 
-module _ (N : ℕ → Type 0) where
+module _ (N : Refusal → Type 0) where
   unfoldable pub Numbered : {A : Type 0} → (A → Type 0) → Check A → Type 0
-  Numbered P (passed a) = P a
-  Numbered P (refused n) = N n
+  Numbered P (Ok a) = P a
+  Numbered P (Err n) = N n
 
-  pub last_numbered : (t : Bool) (n : ℕ) → N n → Numbered Any (t else n)
+  pub last_numbered : (t : Bool) (n : Refusal) → N n → Numbered Any (t else n)
   unfolding Numbered ◌else◌
   last_numbered true n h = tt
   last_numbered false n h = h
@@ -101,21 +103,21 @@ module _ (N : ℕ → Type 0) where
   module _ {A : Type 0} (P : A → Type 0) where
     pub after_numbered : {B : Type 0} (x : Check B) (y : Check A) → Numbered Any x → Numbered P y → Numbered P (x >> y)
     unfolding Numbered ◌>>◌
-    after_numbered (passed b) y h k = k
-    after_numbered (refused n) y h k = h
+    after_numbered (Ok b) y h k = k
+    after_numbered (Err n) y h k = h
 
     pub bound_numbered : {B : Type 0} (x : Check B) (f : B → Check A) → Numbered Any x → ((b : B) → Numbered P (f b)) → Numbered P (x >>= f)
     unfolding Numbered ◌>>=◌
-    bound_numbered (passed b) f h k = k b
-    bound_numbered (refused n) f h k = h
+    bound_numbered (Ok b) f h k = k b
+    bound_numbered (Err n) f h k = h
 
-    pub asked_numbered : (t : Bool) (n : ℕ) (y : Check A) → N n → Numbered P y → Numbered P ((t else n) >> y)
+    pub asked_numbered : (t : Bool) (n : Refusal) (y : Check A) → N n → Numbered P y → Numbered P ((t else n) >> y)
     asked_numbered t n y h k = after_numbered (t else n) y (last_numbered t n h) k
 
     pub either_numbered : (t : Bool) (x y : Check A) → Numbered P x → Numbered P y → Numbered P (cond t x y)
     either_numbered true x y h k = h
     either_numbered false x y h k = k
 
-    pub refused_numbered : (x : Check A) (n : ℕ) → Numbered P x → x ≡ refused n → N n
+    pub refused_numbered : (x : Check A) (n : Refusal) → Numbered P x → x ≡ Err n → N n
     unfolding Numbered
     refused_numbered x n h e = rw e at h

@@ -8,13 +8,15 @@ use lib.Dec.{eqb}
 use lib.ListN.{length, drop, length-append, length-drop}
 use borrow.Author.Tests.{leb-true, eqb-true, eqb-false, le-leb, lt-leb, eq-eqb, ne_eqb}
 use Rattle.values.specs.Kinds.{Kind, places_of}
-use Rattle.rules.specs.Check.{passed, refused, ◌else◌, ◌>>◌}
+use Rattle.rules.specs.Check.{◌else◌, ◌>>◌}
 use Rattle.rules.specs.Fetch.{u8}
 use Rattle.rules.specs.Descriptor.{class_type, void_type, array_type, opening, closing, FieldType, Parameters, no_parameter, next_parameter, is_base, return_letter, Return, returns_field, returns_void, MethodDescriptor, descriptor, field_end, kind_of, kinds_from, fields_end, parameter_kinds, parameters_end, return_end, return_type, descriptor_check}
 use Rattle.rules.specs.Returns.{is_return_type}
 use Rattle.rules.proofs.Check.{first_passed, last_passed}
 use Rattle.rules.proofs.Standing.{inside, first_byte, rest_after, Standing, byte_stands, join, to_the_end}
 use Rattle.rules.proofs.Fields.{field_bytes, field_stands, field_forward, field_past, no_field, field_read}
+use Rattle.std.specs.Prelude.{Ok, Err}
+use Rattle.rules.specs.declared.refusals.Refusal.{Refusal}
 
 -- ---- parameter by parameter: as many turns as there are bytes left are enough
 
@@ -167,15 +169,15 @@ module _ (d : List ℕ) where
     closed : u8 d (parameters_end d) ≡ closing
     returned : return_end d (parameters_end d + 1) ≡ length d
 
-  accepted : descriptor_check d ≡ passed tt → Accepted
+  accepted : descriptor_check d ≡ Ok tt → Accepted
   unfolding descriptor_check
   accepted e =
-      let (a, p) = first_passed _ 31 _ e in
-      let (b, q) = first_passed _ 31 _ p in
-      let (c, r) = first_passed _ 31 _ q in
-      record { opened = eqb-true _ _ a; few = leb-true _ _ b; closed = eqb-true _ _ c; returned = eqb-true _ _ (last_passed _ 31 r) }
+      let (a, p) = first_passed _ _ _ e in
+      let (b, q) = first_passed _ _ _ p in
+      let (c, r) = first_passed _ _ _ q in
+      record { opened = eqb-true _ _ a; few = leb-true _ _ b; closed = eqb-true _ _ c; returned = eqb-true _ _ (last_passed _ _ r) }
 
-  pub descriptor_sound : descriptor_check d ≡ passed tt → MethodDescriptor d (parameter_kinds d) (return_type d)
+  pub descriptor_sound : descriptor_check d ≡ Ok tt → MethodDescriptor d (parameter_kinds d) (return_type d)
   descriptor_sound e = go (accepted e)
     where
       go : Accepted → MethodDescriptor d (parameter_kinds d) (return_type d)
@@ -187,7 +189,7 @@ module _ (d : List ℕ) where
           made o s z f ps a.few t
 
   good : {b r : List ℕ} {ks : List Kind} {t : ℕ} → d ≡ opening ∷ b ++ closing ∷ r → Parameters b ks → places_of ks ≤ 255 → Return r t
-      → (descriptor_check d ≡ passed tt) × (parameter_kinds d ≡ ks) × (return_type d ≡ t)
+      → (descriptor_check d ≡ Ok tt) × (parameter_kinds d ≡ ks) × (return_type d ≡ t)
   unfolding descriptor_check ◌else◌ ◌>>◌
   good {b} {r} {ks} {t} e ps few returned =
       let o : u8 d 0 ≡ opening = ap (λ (x : List ℕ). u8 x 0) e in
@@ -201,38 +203,38 @@ module _ (d : List ℕ) where
       let (x, y) = return_read d (parameters_end d + 1) (omega (arith, inside d (parameters_end d) (omega arith))) returned (rest_after d (parameters_end d) (closing ∷ []) r c) in
       (rw (eq-eqb _ _ o, kinds, le-leb _ _ few, eq-eqb _ _ z, eq-eqb _ _ x), kinds, y)
 
-pub descriptor_complete : (d : List ℕ) (ks : List Kind) (t : ℕ) → MethodDescriptor d ks t → (descriptor_check d ≡ passed tt) × (parameter_kinds d ≡ ks) × (return_type d ≡ t)
+pub descriptor_complete : (d : List ℕ) (ks : List Kind) (t : ℕ) → MethodDescriptor d ks t → (descriptor_check d ≡ Ok tt) × (parameter_kinds d ≡ ks) × (return_type d ≡ t)
 descriptor_complete d ks t (descriptor {b = b} {r = r} ps few returned) = good (opening ∷ b ++ closing ∷ r) refl ps few returned
 
 -- ---- question by question
 
 module _ (d : List ℕ) where
-  pub not_opened : (u8 d 0 ≡ opening → ⊥) → descriptor_check d ≡ refused 31
+  pub not_opened : (u8 d 0 ≡ opening → ⊥) → descriptor_check d ≡ Err Refusal.Descriptor
   unfolding descriptor_check ◌else◌ ◌>>◌
   not_opened h = rw (ne_eqb _ _ h)
 
   module _ (opened : u8 d 0 ≡ opening) where
-    pub too_many_places : 255 < places_of (parameter_kinds d) → descriptor_check d ≡ refused 31
+    pub too_many_places : 255 < places_of (parameter_kinds d) → descriptor_check d ≡ Err Refusal.Descriptor
     unfolding descriptor_check ◌else◌ ◌>>◌
     too_many_places h = rw (eq-eqb _ _ opened, lt-leb _ _ h)
 
     module _ (few : places_of (parameter_kinds d) ≤ 255) where
-      pub not_closed : (u8 d (parameters_end d) ≡ closing → ⊥) → descriptor_check d ≡ refused 31
+      pub not_closed : (u8 d (parameters_end d) ≡ closing → ⊥) → descriptor_check d ≡ Err Refusal.Descriptor
       unfolding descriptor_check ◌else◌ ◌>>◌
       not_closed h = rw (eq-eqb _ _ opened, le-leb _ _ few, ne_eqb _ _ h)
 
       module _ (closed : u8 d (parameters_end d) ≡ closing) where
-        pub no_return : (return_end d (parameters_end d + 1) ≡ length d → ⊥) → descriptor_check d ≡ refused 31
+        pub no_return : (return_end d (parameters_end d + 1) ≡ length d → ⊥) → descriptor_check d ≡ Err Refusal.Descriptor
         unfolding descriptor_check ◌else◌ ◌>>◌
         no_return h = rw (eq-eqb _ _ opened, le-leb _ _ few, eq-eqb _ _ closed, ne_eqb _ _ h)
 
-        pub is_descriptor : return_end d (parameters_end d + 1) ≡ length d → descriptor_check d ≡ passed tt
+        pub is_descriptor : return_end d (parameters_end d + 1) ≡ length d → descriptor_check d ≡ Ok tt
         unfolding descriptor_check ◌else◌ ◌>>◌
         is_descriptor h = rw (eq-eqb _ _ opened, le-leb _ _ few, eq-eqb _ _ closed, eq-eqb _ _ h)
 
 -- ---- what a state has of a good one is a return type, and so not 0
 
-pub return_known : (d : List ℕ) → descriptor_check d ≡ passed tt → is_return_type (return_type d) ≡ true
+pub return_known : (d : List ℕ) → descriptor_check d ≡ Ok tt → is_return_type (return_type d) ≡ true
 unfolding is_return_type
 return_known d e = go (parameters_end d + 1) (accepted d e).returned _ _ _ _ refl refl refl refl
   where
@@ -246,7 +248,7 @@ return_known d e = go (parameters_end d + 1) (accepted d e).returned _ _ _ _ ref
         let none : return_end d at ≡ 0 = return_field d at (eqb-false (u8 d at) void_type k) ∙ no_field d at g h f in
         absurd (omega (arith, inside d 0 (omega (arith, (accepted d e).opened))))
 
-pub return_above : (d : List ℕ) → descriptor_check d ≡ passed tt → 0 < return_type d
+pub return_above : (d : List ℕ) → descriptor_check d ≡ Ok tt → 0 < return_type d
 unfolding is_return_type
 return_above d e = go (return_type d) (return_known d e)
   where

@@ -7,10 +7,7 @@ use lib.Ieee as Ieee
 use Rattle.values.specs.declared.Value.TheVariants.{Int}
 use Rattle.values.specs.Integers.{signed, low, bitwise, flipped}
 use Rattle.values.specs.Floats.{nearest}
-use Rattle.rules.specs.declared.State.{State}
-use Rattle.rules.specs.declared.Decision.{Decision}
-use Rattle.rules.specs.declared.Decision.TheVariants.{Ordinary}
-use Rattle.rules.specs.declared.End.TheVariants as End
+use Rattle.rules.specs.declared.states.State.{State}
 use Rattle.rules.specs.Check.{◌else◌, ◌>>◌, ◌>>=◌}
 use Rattle.rules.specs.Instructions.{row_of}
 use Rattle.rules.specs.Fetch.{wide_check, table_check, lookup_check, offsets_from, pairs_from, fetched, aligned}
@@ -18,6 +15,9 @@ use Rattle.rules.specs.Returns.{is_return_type, narrowed, returned}
 use Rattle.rules.specs.Questions.{Method, method, frame_check, needs_check}
 use Rattle.rules.specs.Step.{decide_frame, decide_of, core_machine}
 use Rattle.rules.specs.Run.{Ran, run_from, run_of}
+use Rattle.std.specs.Prelude.{Ok, Some}
+use Rattle.rules.specs.Decisions.{Decision}
+use Rattle.rules.specs.declared.halts.Halt.TheVariants.{Return}
 
 -- ---- the step and the run on given lists and numbers, open to computation
 
@@ -27,17 +27,12 @@ state stack locals pc depth count = record { max_stack = stack; max_locals = loc
 -- an ordinary step to an offset and a depth that writes these words from a place on, written out
 abbrev pub changes : ℕ → ℕ → ℕ → List ℕ → Decision
 changes pc depth first ws =
-    Ordinary (record {
+    Ok (record {
       pc = pc;
       depth = depth;
       first = first;
       many = length ws;
-      w0 = get_or ws 0 0;
-      w1 = get_or ws 1 0;
-      w2 = get_or ws 2 0;
-      w3 = get_or ws 3 0;
-      w4 = get_or ws 4 0;
-      w5 = get_or ws 5 0;
+      words = get_or ws 0 0 ∷ get_or ws 1 0 ∷ get_or ws 2 0 ∷ get_or ws 3 0 ∷ get_or ws 4 0 ∷ get_or ws 5 0 ∷ [];
     })
 
 unfoldable pub decided : Method → State → List ℕ → Decision
@@ -102,6 +97,6 @@ marked =
 
 -- ---- the printed walk: 3 + 4, returned after three ordinary steps
 
-pub printed : ran (method (6 ∷ 7 ∷ 0x60 ∷ 0xac ∷ []) [] [] []) 1600 (state 2 0 0 0 0) (0 ∷ 0 ∷ []) ≡ record { state = state 2 0 3 1 0; steps = 3; end = End.Return (Int 7); slots = 7 ∷ 4 ∷ [] }
+pub printed : ran (method (6 ∷ 7 ∷ 0x60 ∷ 0xac ∷ []) [] [] []) 1600 (state 2 0 0 0 0) (0 ∷ 0 ∷ []) ≡ record { state = state 2 0 3 1 0; steps = 3; end = Some (Return (Int 7)); slots = 7 ∷ 4 ∷ [] }
 unfolding ran
 printed = refl

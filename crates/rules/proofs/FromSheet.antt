@@ -10,9 +10,7 @@ use borrow.Author.Tests.{eqb-true, eqb-false, ltb-true, ltb-false}
 use lib.Dec.{leb, eqb, ltb}
 use lib.ListN.{length, take, drop, set, get_or, replicate, length-set, length-append, length-replicate, get_or-replicate, get_or-append}
 use lib.Seq.{get_or-set_same, get_or-set_other, get_or-append-add, ext_get_or}
-use Rattle.rules.specs.declared.Load.TheVariants.{Accepted}
-use Rattle.rules.specs.declared.Reading.{Reading}
-use Rattle.rules.specs.Check.{passed}
+use Rattle.rules.specs.declared.sheets.Reading.{Reading}
 use Rattle.rules.specs.Fetch.{u8, u32}
 use Rattle.rules.specs.Questions.{Method, method}
 use Rattle.rules.specs.Step.{Decider, machine_by}
@@ -25,6 +23,7 @@ use Rattle.rules.proofs.Sheet.{load_accepted}
 use Rattle.rules.proofs.AcceptedLoad.{length_words, pool_kinds, pool_words, length_arguments, code_is, handlers_is, frame_length, frame_is, loaded_framed, was_read}
 use Rattle.rules.proofs.Lawful.{Lawful}
 use Rattle.rules.proofs.Walk.{walk_from, whole_list}
+use Rattle.std.specs.Prelude.{Ok}
 
 -- ---- places by their index
 
@@ -124,7 +123,7 @@ frame_at sheet p i h = go (ltb i p.argument_count) refl
 rewalked : {f g : PlainWalk} (slots : List ℕ) (presses : List Press) (w : Walked) → f ≡ g → Demand3 f slots presses w → Demand3 g slots presses w
 rewalked slots presses w e h = subst (λ (f : PlainWalk). Demand3 f slots presses w) e h
 
-module _ (sheet slots kinds words : List ℕ) (bytes : (i : ℕ) → u8 sheet i < 256) (p : Reading) (read : sheet_check sheet ≡ passed p) (fits : memory_check p slots kinds words ≡ passed tt) where
+module _ (sheet slots kinds words : List ℕ) (bytes : (i : ℕ) → u8 sheet i < 256) (p : Reading) (read : sheet_check sheet ≡ Ok p) (fits : memory_check p slots kinds words ≡ Ok tt) where
   abbrev pool : Pool
   pool = loaded_pool sheet p kinds words
 
@@ -195,7 +194,7 @@ module _ (sheet slots kinds words : List ℕ) (bytes : (i : ℕ) → u8 sheet i 
 
 -- DEMAND 3, of any lawful rules: for every sheet that is accepted, whatever the lent memory held, every log and every list of presses
 pub demand3 : (rules : Method → Decider) → ((l : Method) → Lawful (machine_by rules l))
-    → (sheet slots kinds words : List ℕ) → ((i : ℕ) → u8 sheet i < 256) → (load_of sheet slots kinds words).loaded.answer ≡ Accepted → (log : List ℕ) (presses : List Press)
+    → (sheet slots kinds words : List ℕ) → ((i : ℕ) → u8 sheet i < 256) → (load_of sheet slots kinds words).loaded.answer ≡ Ok tt → (log : List ℕ) (presses : List Press)
     → let m = load_of sheet slots kinds words in
     Demand3 (plain_walk_in rules sheet (loaded_method sheet m) m.slots log) m.slots presses
     (walk_of (machine_by rules (loaded_method sheet m)) presses m.loaded.state m.slots log)

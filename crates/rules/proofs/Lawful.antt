@@ -3,13 +3,10 @@ use Prim.Native.Nat.{ℕ, ◌-◌, ◌≤◌}
 use mathlib.Core.Path.{◌≡◌, refl, ap, subst, ◌∙◌}
 use mathlib.Core.Bool.{cond}
 use mathlib.Core.List.{List}
-use mathlib.Core.Option.{Option, none, some}
 use native.Mathlib.Omega.{arith}
 use lib.Dec.{eqb}
-use Rattle.rules.specs.declared.State.{State}
-use Rattle.rules.specs.declared.Update.{Update}
-use Rattle.rules.specs.declared.Decision.{Decision}
-use Rattle.rules.specs.declared.Decision.TheVariants.{Ordinary}
+use Rattle.rules.specs.declared.states.State.{State}
+use Rattle.rules.specs.declared.updates.Update.{Update}
 use Rattle.rules.specs.Check.{Check, ◌>>◌}
 use Rattle.rules.specs.Forms.{Result, pushes, stores, divides, branches, returns, Source, stack, local, pool}
 use Rattle.rules.specs.Fetch.{Instruction, fetched}
@@ -21,6 +18,8 @@ use Rattle.rules.proofs.Check.{bind_same}
 use Rattle.rules.proofs.Step.{result}
 use Rattle.rules.proofs.Legal.{Legal, IfOrdinary, decide_legal}
 use Rattle.rules.proofs.Numbers.{IfRefused, Not14, decide_numbered, never_14}
+use Rattle.std.specs.Prelude.{Ok, Some, None, Option}
+use Rattle.rules.specs.Decisions.{Decision}
 
 -- a decision by the number of slots, the state and the words of the frame, which it is by its type, and
 pub record Lawful (x : Machine) : Type 0 where
@@ -33,15 +32,15 @@ pub record Lawful (x : Machine) : Type 0 where
   -- the count plays no part
   pub unseen : (n : ℕ) (s : State) (words : List ℕ) → x.decides n (uncounted s) words ≡ x.decides n s words
 
-pub ordinary_by : (x : Machine) → Lawful x → (n : ℕ) (s : State) (words : List ℕ) (u : Update) → (x.decides n s words).decision ≡ Ordinary u → Legal x.runs s n u
+pub ordinary_by : (x : Machine) → Lawful x → (n : ℕ) (s : State) (words : List ℕ) (u : Update) → (x.decides n s words).decision ≡ Ok u → Legal x.runs s n u
 ordinary_by x law n s words u e = subst (IfOrdinary (Legal x.runs s n)) e (law.legal n s words)
 
 -- ---- the rules of the 164 instructions
 
 module _ (l : Method) (n : ℕ) (s : State) (words : List ℕ) where
   thrown_same : (x : Option ℕ) → thrown_to l.code (uncounted s) x ≡ thrown_to l.code s x
-  thrown_same none = refl
-  thrown_same (some h) = refl
+  thrown_same None = refl
+  thrown_same (Some h) = refl
 
   outcome_same : (i : Instruction) (r : Result) → outcome l (uncounted s) i r ≡ outcome l s i r
   unfolding thrown_at

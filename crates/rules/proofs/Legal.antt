@@ -3,7 +3,6 @@ use Prim.Native.Nat.{ℕ, zero, suc, ◌+◌, ◌≤◌, ◌<◌}
 use mathlib.Core.Path.{◌≡◌, subst}
 use mathlib.Core.Bool.{true, cond}
 use mathlib.Core.List.{List, []}
-use mathlib.Core.Option.{Option, none, some}
 use native.Mathlib.Omega.{arith}
 use lib.Dec.{eqb}
 use lib.ListN.{length}
@@ -11,11 +10,9 @@ use lib.Seq.{length-paste}
 use lib.IntN.{ℤ, pos, negsuc}
 use borrow.Author.Tests.{ltb-true, leb-true}
 use Rattle.values.specs.Kinds.{places_of}
-use Rattle.rules.specs.declared.State.{State}
-use Rattle.rules.specs.declared.Update.{Update}
-use Rattle.rules.specs.declared.Decision.{Decision}
-use Rattle.rules.specs.declared.Decision.TheVariants.{Ordinary, Return, Throw, Refused}
-use Rattle.rules.specs.Check.{Check, passed, refused}
+use Rattle.rules.specs.declared.states.State.{State}
+use Rattle.rules.specs.declared.updates.Update.{Update}
+use Rattle.rules.specs.Check.{Check}
 use Rattle.rules.specs.Forms.{Result, pushes, stores, divides, branches, returns}
 use Rattle.rules.specs.Instructions.{row_of}
 use Rattle.rules.specs.Fetch.{Instruction, fetched}
@@ -28,6 +25,9 @@ use Rattle.rules.proofs.Rows.{of_row, small, small_row, few_pushed, one_named, f
 use Rattle.rules.proofs.Questions.{Framed, framed, Needed, needed}
 use Rattle.rules.proofs.Step.{result}
 use Rattle.rules.proofs.Fetched.{fetched_sound}
+use Rattle.std.specs.Prelude.{Ok, Err, Some, None, Option}
+use Rattle.rules.specs.declared.halts.Halt.TheVariants.{Return, Throw, Refused}
+use Rattle.rules.specs.Decisions.{Decision}
 
 pub record Legal (l : Method) (s : State) (n : ℕ) (u : Update) : Type 0 where
   pub frame_there : Framed l s n
@@ -37,17 +37,17 @@ pub record Legal (l : Method) (s : State) (n : ℕ) (u : Update) : Type 0 where
   pub within : u.first + u.many ≤ frame_size s
 
 abbrev pub IfOrdinary : (Update → Type 0) → Decision → Type 0
-IfOrdinary P (Ordinary u) = P u
-IfOrdinary P (Return v) = Unit {0}
-IfOrdinary P Throw = Unit {0}
-IfOrdinary P (Refused n) = Unit {0}
+IfOrdinary P (Ok u) = P u
+IfOrdinary P (Err (Return v)) = Unit {0}
+IfOrdinary P (Err Throw) = Unit {0}
+IfOrdinary P (Err (Refused n)) = Unit {0}
 
 -- ---- an instruction that is fetched is of a row of the table
 
 Small : Instruction → Type 0
 Small i = small i.rule ≡ true
 
-fetched_small : (code : List ℕ) (pc : ℕ) (i : Instruction) → fetched code pc ≡ passed i → Small i
+fetched_small : (code : List ℕ) (pc : ℕ) (i : Instruction) → fetched code pc ≡ Ok i → Small i
 unfolding Small
 fetched_small code pc i e =
     let f = fetched_sound code pc i e in
@@ -61,8 +61,8 @@ module _ (l : Method) (n : ℕ) (s : State) where
 
   decision_fine : (x : Check Decision) → Holds Fine x → Fine (decision x)
   unfolding Holds Fine
-  decision_fine (passed d) h = h
-  decision_fine (refused n) h = tt
+  decision_fine (Ok d) h = h
+  decision_fine (Err n) h = tt
 
   -- where nothing is written the first place is 0
   placed : (at n limit : ℕ) → (0 < n → at + n ≤ limit) → first_place at n + n ≤ limit
@@ -74,7 +74,7 @@ module _ (l : Method) (n : ℕ) (s : State) where
 
   inside_code : (to : ℤ) → Holds InCode (inside l.code to)
   unfolding Holds InCode
-  inside_code (pos k) = asked InCode _ 11 _ (λ t. ltb-true k (length l.code) t)
+  inside_code (pos k) = asked InCode _ _ _ (λ t. ltb-true k (length l.code) t)
   inside_code (negsuc k) = tt
 
   module _ (f : Framed l s n) (i : Instruction) (small : Small i) (needs : Needed l s i) where
@@ -105,8 +105,8 @@ module _ (l : Method) (n : ℕ) (s : State) where
 
     thrown_fine : (x : Option ℕ) → Holds Fine (thrown_to l.code s x)
     unfolding Holds Fine InCode
-    thrown_fine none = tt
-    thrown_fine (some h) = asked Fine _ 8 _ (λ t.
+    thrown_fine None = tt
+    thrown_fine (Some h) = asked Fine _ _ _ (λ t.
         let one = leb-true 1 s.max_stack t in
         bound Fine (inside l.code (handler_target s h)) _ (λ p e. record {
           frame_there = f;
@@ -152,5 +152,5 @@ still_framed l s n u legal count =
       deep = legal.new_depth;
     }
 
-pub ordinary_legal : (l : Method) (s : State) (slots : List ℕ) (u : Update) → decide_of l s slots ≡ Ordinary u → Legal l s (length slots) u
+pub ordinary_legal : (l : Method) (s : State) (slots : List ℕ) (u : Update) → decide_of l s slots ≡ Ok u → Legal l s (length slots) u
 ordinary_legal l s slots u e = subst (IfOrdinary (Legal l s (length slots))) e (decide_legal l (length slots) s (frame s slots))

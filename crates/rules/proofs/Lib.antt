@@ -1,4 +1,5 @@
 -- Laws that other crates cite
+pub mod RefusalNumbers
 pub mod Check
 pub mod Rows
 pub mod Questions
@@ -6,7 +7,6 @@ pub mod Step
 pub mod Handlers
 pub mod Fetched
 pub mod Legal
-pub mod Answers
 pub mod Returns
 pub mod Numbers
 pub mod Lawful

@@ -3,7 +3,6 @@
 use Prim.Native.Nat.{ℕ, zero, suc, ◌+◌, ◌-◌, ◌*◌, ◌≤◌, ◌<◌, max}
 use mathlib.Core.Path.{◌≡◌, refl, sym, ap, ◌∙◌}
 use mathlib.Core.Bool.{Bool, true, false, ◌||◌, cond}
-use mathlib.Core.Option.{Option, none, some}
 use mathlib.Core.List.{List, [], ◌∷◌}
 use native.Mathlib.Omega.{arith}
 use native.Mathlib.Nat.{add-zero, zero-add}
@@ -12,12 +11,9 @@ use borrow.Author.Tests.{ltb-true, leb-true, le-leb, lt-ltb, ltb-false}
 use lib.ListN.{length, get_or, take, drop, length-drop}
 use lib.Seq.{paste, take-paste, length-paste}
 use lib.Dec.{ltb, leb}
-use Rattle.rules.specs.declared.State.{State}
-use Rattle.rules.specs.declared.Update.{Update}
-use Rattle.rules.specs.declared.Decision.{Decision}
-use Rattle.rules.specs.declared.Pressed.{Pressed}
-use Rattle.rules.specs.declared.Pressed.TheVariants.{Granted, Return, Throw, Refused}
-use Rattle.rules.specs.Check.{passed, refused, ◌else◌, ◌>>◌}
+use Rattle.rules.specs.declared.states.State.{State}
+use Rattle.rules.specs.declared.updates.Update.{Update}
+use Rattle.rules.specs.Check.{◌else◌, ◌>>◌}
 use Rattle.rules.specs.Questions.{frame_size, frame_check}
 use Rattle.rules.specs.Step.{frame, beyond, Decided, decide_on, moved, update_words, written, zeroed, cleared}
 use Rattle.rules.specs.Run.{uncounted}
@@ -29,6 +25,10 @@ use Rattle.rules.proofs.Legal.{Legal, written_length, still_framed}
 use Rattle.rules.proofs.Lawful.{Lawful, ordinary_by}
 use Rattle.rules.proofs.Pasted.{paste_same, paste_back, take_front, drop_front, part_front, entry_put, entry_below, entry_word, entry_words}
 use Rattle.rules.proofs.Scratch.{zeroed_twice, frame_cleared, beyond_cleared, length_cleared}
+use Rattle.std.specs.Prelude.{Ok, Err, Some, None, Option}
+use Rattle.rules.specs.declared.refusals.Refusal.{Refusal}
+use Rattle.rules.specs.declared.halts.Halt.TheVariants.{Return, Throw, Refused}
+use Rattle.rules.specs.Decisions.{Decision, Pressed}
 
 -- what no step and no press changes of a state: the sizes and the return type
 pub record SameMethod (s t : State) : Type 0 where
@@ -51,38 +51,38 @@ decides f law s slots same n =
 
 -- the ten words that undo the step that the rules make of a stage
 abbrev pub undo_by : Stage → Decision → List ℕ
-undo_by t (Decision.Ordinary u) = undo_record t.pc t.depth u.first u.many t.frame
-undo_by t (Decision.Return v) = []
-undo_by t Decision.Throw = []
-undo_by t (Decision.Refused n) = []
+undo_by t (Ok u) = undo_record t.pc t.depth u.first u.many t.frame
+undo_by t (Err (Return v)) = []
+undo_by t (Err Throw) = []
+undo_by t (Err (Refused n)) = []
 
 abbrev pub undo_of : PlainWalk → Option Stage → List ℕ
-undo_of f none = []
-undo_of f (some t) = undo_by t (decision_at f t).decision
+undo_of f None = []
+undo_of f (Some t) = undo_by t (decision_at f t).decision
 
 -- the step that led to a stage
 record Led (f : PlainWalk) (o : Option Stage) (b : Stage) : Type 0 where
   from : Stage
   by : Update
-  is_stage : o ≡ some from
-  is_decision : (decision_at f from).decision ≡ Decision.Ordinary by
+  is_stage : o ≡ Some from
+  is_decision : (decision_at f from).decision ≡ Ok by
   is_next : record { pc = by.pc; depth = by.depth; frame = written by from.frame } ≡ b
 
-led : (f : PlainWalk) (o : Option Stage) (b : Stage) → next f o ≡ some b → Led f o b
-led f none b e = let z : ◌≡◌ {A = ℕ} 0 1 = cc in absurd (omega arith)
-led f (some t) b e = go (decision_at f t).decision refl e
+led : (f : PlainWalk) (o : Option Stage) (b : Stage) → next f o ≡ Some b → Led f o b
+led f None b e = let z : ◌≡◌ {A = ℕ} 0 1 = cc in absurd (omega arith)
+led f (Some t) b e = go (decision_at f t).decision refl e
   where
-    go : (d : Decision) → (decision_at f t).decision ≡ d → follow_by t d ≡ some b → Led f (some t) b
-    go (Decision.Ordinary u) q h = record { from = t; by = u; is_stage = refl; is_decision = q; is_next = cc }
-    go (Decision.Return v) q h = let z : ◌≡◌ {A = ℕ} 0 1 = cc in absurd (omega arith)
-    go Decision.Throw q h = let z : ◌≡◌ {A = ℕ} 0 1 = cc in absurd (omega arith)
-    go (Decision.Refused n) q h = let z : ◌≡◌ {A = ℕ} 0 1 = cc in absurd (omega arith)
+    go : (d : Decision) → (decision_at f t).decision ≡ d → follow_by t d ≡ Some b → Led f (Some t) b
+    go (Ok u) q h = record { from = t; by = u; is_stage = refl; is_decision = q; is_next = cc }
+    go (Err (Return v)) q h = let z : ◌≡◌ {A = ℕ} 0 1 = cc in absurd (omega arith)
+    go (Err Throw) q h = let z : ◌≡◌ {A = ℕ} 0 1 = cc in absurd (omega arith)
+    go (Err (Refused n)) q h = let z : ◌≡◌ {A = ℕ} 0 1 = cc in absurd (omega arith)
 
-led_legal : (f : PlainWalk) → Lawful f.machine → (t : Stage) (u : Update) → (decision_at f t).decision ≡ Decision.Ordinary u → Legal f.machine.runs (moved f.state t.pc t.depth 0) f.slots u
+led_legal : (f : PlainWalk) → Lawful f.machine → (t : Stage) (u : Update) → (decision_at f t).decision ≡ Ok u → Legal f.machine.runs (moved f.state t.pc t.depth 0) f.slots u
 led_legal f law t u e = ordinary_by f.machine law f.slots (moved f.state t.pc t.depth 0) t.frame u e
 
 -- every stage's frame has as many places as the first
-frames : (f : PlainWalk) → Lawful f.machine → length f.first.frame ≡ frame_size f.state → (n : ℕ) (t : Stage) → stage f n ≡ some t → length t.frame ≡ frame_size f.state
+frames : (f : PlainWalk) → Lawful f.machine → length f.first.frame ≡ frame_size f.state → (n : ℕ) (t : Stage) → stage f n ≡ Some t → length t.frame ≡ frame_size f.state
 unfolding stage_from
 frames f law h zero t q = let z : f.first ≡ t = cc in rw (← z) h
 frames f law h (suc n) t q =
@@ -106,7 +106,7 @@ record_frame pc depth first many p words h k =
 -- ---- THE INVARIANT: a walk that began on these slots stands at net, its presses having taken `far` slots after the frame as scratch
 
 pub record Stands (f : PlainWalk) (slots₀ : List ℕ) (far net : ℕ) (s : State) (slots log : List ℕ) : Type 0 where
-  pub at_stage : stage f net ≡ some (stage_of s slots)
+  pub at_stage : stage f net ≡ Some (stage_of s slots)
   pub outside : beyond f.state slots ≡ zeroed far (beyond f.state slots₀)
   pub long : length slots ≡ f.slots
   pub counted : s.count ≡ net
@@ -132,7 +132,7 @@ module _ (f : PlainWalk) (law : Lawful f.machine) (slots₀ : List ℕ) (whole :
       let same : frame_size s ≡ frame_size f.state = omega arith in
       let room : frame_size s ≤ length slots = omega (arith, g.room, c.long) in
       record {
-        at_stage = c.at_stage ∙ ap (λ (x : List ℕ). some (record { pc = s.pc; depth = s.depth; frame = x })) (sym (frame_cleared s slots room n));
+        at_stage = c.at_stage ∙ ap (λ (x : List ℕ). Some (record { pc = s.pc; depth = s.depth; frame = x })) (sym (frame_cleared s slots room n));
         outside =
             ap (λ (k : ℕ). drop k (cleared s n slots)) (sym same)
             ∙ beyond_cleared s slots room n
@@ -168,7 +168,7 @@ module _ (f : PlainWalk) (law : Lawful f.machine) (slots₀ : List ℕ) (whole :
     stays : (a : Pressed) → Agrees f slots₀ (max far here) net a (kept s slots log here a)
     stays a = record { answered = refl; stands = recleared far net s slots log c here near }
 
-    module _ (u : Update) (q : (decision_at f (stage_of s slots)).decision ≡ Decision.Ordinary u) where
+    module _ (u : Update) (q : (decision_at f (stage_of s slots)).decision ≡ Ok u) where
       legal : Legal f.machine.runs s (length slots) u
       legal = ordinary_by f.machine law (length slots) s (frame s slots) u (ap (λ (d : Decided). d.decision) staged ∙ q)
 
@@ -178,7 +178,7 @@ module _ (f : PlainWalk) (law : Lawful f.machine) (slots₀ : List ℕ) (whole :
       new_frame : frame s (written u slots) ≡ written u (frame s slots)
       new_frame = let g = legal in take_front slots u.first u.many (frame_size s) (update_words u) g.within room_here g.few
 
-      new_stage : stage f (net + 1) ≡ some (record { pc = u.pc; depth = u.depth; frame = written u (frame s slots) })
+      new_stage : stage f (net + 1) ≡ Some (record { pc = u.pc; depth = u.depth; frame = written u (frame s slots) })
       unfolding stage_from
       new_stage = rw (add-one, c.at_stage, q)
 
@@ -203,11 +203,11 @@ module _ (f : PlainWalk) (law : Lawful f.machine) (slots₀ : List ℕ) (whole :
             ∙ sym undo_here
             ∙ ap (λ (n : ℕ). undo_of f (stage f n)) (sym k)
 
-        goes : Agrees f slots₀ (max far here) (net + 1) Granted (granted s slots log here u)
+        goes : Agrees f slots₀ (max far here) (net + 1) (Ok tt) (granted s slots log here u)
         goes = record {
           answered = refl;
           stands = recleared far (net + 1) (moved s u.pc u.depth (s.count + 1)) (written u slots) _ (record {
-            at_stage = new_stage ∙ ap (λ (x : List ℕ). some (record { pc = u.pc; depth = u.depth; frame = x })) (sym new_frame);
+            at_stage = new_stage ∙ ap (λ (x : List ℕ). Some (record { pc = u.pc; depth = u.depth; frame = x })) (sym new_frame);
             outside = rw (sym same_size) (drop_front slots u.first u.many (frame_size s) (update_words u) legal.within room_here legal.few) ∙ c.outside;
             long = written_length f.machine.runs s slots u legal ∙ c.long;
             counted = ap (λ (n : ℕ). n + 1) c.counted;
@@ -222,17 +222,17 @@ module _ (f : PlainWalk) (law : Lawful f.machine) (slots₀ : List ℕ) (whole :
     forward_by_lem : (d : Decision) → (decision_at f (stage_of s slots)).decision ≡ d
         → Agrees f slots₀ (max far here) (net_after forward net (forward_answer f.log net d)) (forward_answer f.log net d) (forward_by s slots log here d)
     unfolding ◌else◌
-    forward_by_lem (Decision.Ordinary u) q =
+    forward_by_lem (Ok u) q =
         let e : leb (10 * s.count + 10) (length log) ≡ leb (10 * net + 10) f.log = rw (c.counted, c.roomy) in
         rw e (go (leb (10 * net + 10) f.log) refl)
       where
         go : (b : Bool) → leb (10 * net + 10) f.log ≡ b
-            → Agrees f slots₀ (max far here) (net_after forward net (check_answer (b else 12))) (check_answer (b else 12)) (granted_by s slots log here u (b else 12))
+            → Agrees f slots₀ (max far here) (net_after forward net (check_answer (b else Refusal.LogFull))) (check_answer (b else Refusal.LogFull)) (granted_by s slots log here u (b else Refusal.LogFull))
         go true t = goes u q (leb-true _ _ t)
-        go false t = stays (Refused 12)
-    forward_by_lem (Decision.Return v) q = stays (Return v)
-    forward_by_lem Decision.Throw q = stays Throw
-    forward_by_lem (Decision.Refused n) q = stays (Refused n)
+        go false t = stays (Err (Refused Refusal.LogFull))
+    forward_by_lem (Err (Return v)) q = stays (Err (Return v))
+    forward_by_lem (Err Throw) q = stays (Err Throw)
+    forward_by_lem (Err (Refused n)) q = stays (Err (Refused n))
 
     forward_agrees : Agrees f slots₀ (max far (press_scratch f forward net)) (net_after forward net (plain_answer f forward net)) (plain_answer f forward net) (forward_of f.machine s slots log)
     unfolding forward_of plain_answer
@@ -275,7 +275,7 @@ module _ (f : PlainWalk) (law : Lawful f.machine) (slots₀ : List ℕ) (whole :
           ∙ ap (λ (x : ℕ). take x (old_words last.from.frame last.by.first last.by.many)) (sym (zero-add last.by.many))
           ∙ take-paste zeros6 0 (drop last.by.first last.from.frame) last.by.many (omega arith) (omega (arith, last_frame, g.within, length-drop last.by.first last.from.frame))
 
-      back_sound : entry_check f.machine.runs.code s log (10 * k) ≡ passed tt
+      back_sound : entry_check f.machine.runs.code s log (10 * k) ≡ Ok tt
       unfolding entry_check ◌else◌ ◌>>◌
       back_sound =
           let g = last_legal in
@@ -304,13 +304,13 @@ module _ (f : PlainWalk) (law : Lawful f.machine) (slots₀ : List ℕ) (whole :
           let r = c.framed in
           record { paired = r.paired; pool = r.pool; room = r.room; some_code = r.some_code; short_code = r.short_code; in_code = g.in_code; deep = omega (arith, g.deep, c.same_method.stacked) }
 
-      returns : Agrees f slots₀ far k Granted (restored s slots log (10 * k))
+      returns : Agrees f slots₀ far k (Ok tt) (restored s slots log (10 * k))
       returns =
           let g = last_legal in
           rw (back_pc, back_depth, back_first, back_many) (record {
             answered = refl;
             stands = record {
-              at_stage = last.is_stage ∙ ap (λ (x : List ℕ). some (record { pc = last.from.pc; depth = last.from.depth; frame = x })) (sym back_frame);
+              at_stage = last.is_stage ∙ ap (λ (x : List ℕ). Some (record { pc = last.from.pc; depth = last.from.depth; frame = x })) (sym back_frame);
               outside = rw (sym same_size) (drop_front slots last.by.first last.by.many (frame_size s) (drop (10 * k + 4) log) (omega (arith, g.within, same_size)) room_here (omega (arith, g.few, long_log, length-drop (10 * k + 4) log))) ∙ c.outside;
               long = back_long ∙ c.long;
               counted = omega (arith, c.counted);
@@ -322,14 +322,14 @@ module _ (f : PlainWalk) (law : Lawful f.machine) (slots₀ : List ℕ) (whole :
             };
           })
 
-    passes : frame_check f.machine.runs s (length slots) ≡ passed tt
+    passes : frame_check f.machine.runs s (length slots) ≡ Ok tt
     passes = rw c.long (frame_passed f.machine.runs s f.slots c.framed)
 
-    back_none : ltb 0 net ≡ false → back_check f.machine.runs s slots log ≡ refused 13
+    back_none : ltb 0 net ≡ false → back_check f.machine.runs s slots log ≡ Err Refusal.NothingToTakeBack
     unfolding back_check ◌else◌ ◌>>◌
     back_none t = rw (passes, ap (ltb 0) c.counted ∙ t)
 
-    back_some : (k : ℕ) → net ≡ suc k → s.count - 1 ≡ k → back_check f.machine.runs s slots log ≡ passed tt
+    back_some : (k : ℕ) → net ≡ suc k → s.count - 1 ≡ k → back_check f.machine.runs s slots log ≡ Ok tt
     unfolding back_check ◌else◌ ◌>>◌
     back_some k n e =
         rw (passes, lt-ltb 0 s.count (omega (arith, c.counted)), le-leb (10 * s.count) (length log) (omega (arith, c.counted, c.reached, c.roomy)), e) (back_sound k n)
@@ -338,7 +338,7 @@ module _ (f : PlainWalk) (law : Lawful f.machine) (slots₀ : List ℕ) (whole :
     unfolding back_of plain_answer
     back_agrees = go (ltb 0 net) refl
       where
-        go : (b : Bool) → ltb 0 net ≡ b → Agrees f slots₀ far (net_after back net (cond b Granted (Refused 13))) (cond b Granted (Refused 13)) (back_by s slots log (back_check f.machine.runs s slots log))
+        go : (b : Bool) → ltb 0 net ≡ b → Agrees f slots₀ far (net_after back net (cond b (Ok tt) (Err (Refused Refusal.NothingToTakeBack)))) (cond b (Ok tt) (Err (Refused Refusal.NothingToTakeBack))) (back_by s slots log (back_check f.machine.runs s slots log))
         go true t =
             let p = ltb-true 0 net t in
             let n : net ≡ suc (s.count - 1) = omega (arith, c.counted) in

@@ -8,13 +8,13 @@ use native.Mathlib.Omega.{arith}
 use lib.Dec.{leb, eqb}
 use lib.ListN.{length}
 use borrow.Author.Tests.{ltb-true, leb-true, eqb-true}
-use Rattle.rules.specs.declared.Mark.{Mark}
-use Rattle.rules.specs.declared.Mark.TheVariants.{LM, DS, CD, KI, EX, AR}
-use Rattle.rules.specs.declared.Reading.{Reading}
-use Rattle.rules.specs.Check.{passed}
+use Rattle.rules.specs.declared.sheets.Mark.{Mark}
+use Rattle.rules.specs.declared.sheets.Mark.TheVariants.{LM, DS, CD, KI, EX, AR}
+use Rattle.rules.specs.declared.sheets.Reading.{Reading}
 use Rattle.rules.specs.Fetch.{u8, u16}
-use Rattle.rules.specs.Sheet.{body_length, body_at, record_end, known_mark, follows, right_length, pool_index, last_index, is_wide, unread, with_record, contents_check, marked_check, record_check, end_check, read_from, sheet_check}
+use Rattle.rules.specs.Sheet.{last_number, body_length, body_at, record_end, known_mark, follows, right_length, pool_index, last_index, is_wide, unread, with_record, contents_check, marked_check, record_check, end_check, read_from, sheet_check}
 use Rattle.rules.proofs.Check.{first_passed, last_passed, or_true, cases, Holds, asked, after, bound, held, either}
+use Rattle.std.specs.Prelude.{Ok}
 
 abbrev pub Bytes : List ℕ → Type 0
 Bytes sheet = (i : ℕ) → u8 sheet i < 256
@@ -22,25 +22,25 @@ Bytes sheet = (i : ℕ) → u8 sheet i < 256
 -- of the code once it is read, and of the arguments once they are. Before the code stand LM, which has four bytes, and at most one DS; between the
 -- code and the handlers stand KI records of at most fifteen bytes, each with an index of its own
 pub record Within (sheet : List ℕ) (p : Reading) : Type 0 where
-  pub code_near : Bytes sheet → 3 ≤ p.last → p.code ≤ 65551
-  pub some_code : 3 ≤ p.last → 1 ≤ p.code_length
+  pub code_near : Bytes sheet → 3 ≤ last_number p.last → p.code ≤ 65551
+  pub some_code : 3 ≤ last_number p.last → 1 ≤ p.code_length
   pub short_code : Bytes sheet → p.code_length ≤ 65535
   pub code_first : p.code + p.code_length ≤ p.handlers
-  pub pool_short : 3 ≤ p.last → p.handlers ≤ p.code + p.code_length + 15 * p.used
+  pub pool_short : 3 ≤ last_number p.last → p.handlers ≤ p.code + p.code_length + 15 * p.used
   pub indices_short : p.used ≤ 65535
-  pub handlers_first : 6 ≤ p.last → p.handlers + 4 ≤ p.arguments
-  pub arguments_there : 6 ≤ p.last → p.arguments + 4 * p.argument_count ≤ length sheet
-  pub few_arguments : 6 ≤ p.last → p.argument_count ≤ p.max_locals
+  pub handlers_first : 6 ≤ last_number p.last → p.handlers + 4 ≤ p.arguments
+  pub arguments_there : 6 ≤ last_number p.last → p.arguments + 4 * p.argument_count ≤ length sheet
+  pub few_arguments : 6 ≤ last_number p.last → p.argument_count ≤ p.max_locals
   pub small_stack : Bytes sheet → p.max_stack ≤ 65535
   pub small_locals : Bytes sheet → p.max_locals ≤ 65535
 
 -- and where the next record begins
 pub record Placed (sheet : List ℕ) (at : ℕ) (p : Reading) : Type 0 where
   pub within : Within sheet p
-  pub first : p.last ≡ 0 → at ≡ 0
-  pub second : p.last ≡ 1 → at ≡ 8
-  pub third : Bytes sheet → p.last ≡ 2 → at ≤ 65547
-  pub handlers_here : 3 ≤ p.last → p.last ≤ 4 → at ≡ p.handlers
+  pub first : last_number p.last ≡ 0 → at ≡ 0
+  pub second : last_number p.last ≡ 1 → at ≡ 8
+  pub third : Bytes sheet → last_number p.last ≡ 2 → at ≤ 65547
+  pub handlers_here : 3 ≤ last_number p.last → last_number p.last ≤ 4 → at ≡ p.handlers
   pub handlers_before : p.handlers ≤ at
 
 -- ---- what a record may come after
@@ -71,7 +71,7 @@ module _ (sheet : List ℕ) where
   After at p = Placed sheet (record_end sheet at) p
 
   module _ (at : ℕ) (p : Reading) (h : Placed sheet at p) (there : record_end sheet at ≤ length sheet) where
-    with_placed : (m : Mark) → follows m p.last ≡ true → right_length m (body_length sheet at) ≡ true → contents_check sheet at p m ≡ passed tt → After at (with_record sheet at m p)
+    with_placed : (m : Mark) → follows m p.last ≡ true → right_length m (body_length sheet at) ≡ true → contents_check sheet at p m ≡ Ok tt → After at (with_record sheet at m p)
     unfolding After contents_check with_record
     with_placed LM f r c = record {
       within = record {
@@ -88,7 +88,7 @@ module _ (sheet : List ℕ) where
         small_locals = λ b. omega (arith, b (body_at at + 2), b (body_at at + 2 + 1));
       };
       first = λ e. absurd (omega arith);
-      second = λ e. omega (arith, h.first (eqb-true p.last 0 f), eqb-true (body_length sheet at) 4 r);
+      second = λ e. omega (arith, h.first (eqb-true (last_number p.last) 0 f), eqb-true (body_length sheet at) 4 r);
       third = λ b e. absurd (omega arith);
       handlers_here = λ k j. absurd (omega arith);
       handlers_before = omega (arith, h.handlers_before);
@@ -109,13 +109,13 @@ module _ (sheet : List ℕ) where
       };
       first = λ e. absurd (omega arith);
       second = λ e. absurd (omega arith);
-      third = λ b e. omega (arith, h.second (eqb-true p.last 1 f), body_short at b);
+      third = λ b e. omega (arith, h.second (eqb-true (last_number p.last) 1 f), body_short at b);
       handlers_here = λ k j. absurd (omega arith);
       handlers_before = omega (arith, h.handlers_before);
     }
     with_placed CD f r c = record {
       within = record {
-        code_near = λ b k. ⊎_elim (λ e. omega (arith, h.second (eqb-true p.last 1 e))) (λ e. omega (arith, h.third b (eqb-true p.last 2 e))) (or_true _ _ f);
+        code_near = λ b k. ⊎_elim (λ e. omega (arith, h.second (eqb-true (last_number p.last) 1 e))) (λ e. omega (arith, h.third b (eqb-true (last_number p.last) 2 e))) (or_true _ _ f);
         some_code = λ k. leb-true _ _ r;
         short_code = body_short at;
         code_first = omega arith;
@@ -134,10 +134,10 @@ module _ (sheet : List ℕ) where
       handlers_before = omega arith;
     }
     with_placed KI f r c =
-        let (since, until) = after_code p.last f in
+        let (since, until) = after_code (last_number p.last) f in
         let w = h.within in
         let here = h.handlers_here since until in
-        let indexed = first_passed _ 25 _ (first_passed _ 25 _ (first_passed _ 25 _ c).1).1 in
+        let indexed = first_passed _ _ _ (first_passed _ _ _ (first_passed _ _ _ c).1).1 in
         let above = ltb-true p.used (pool_index sheet at) indexed.0 in
         record {
           within = record {
@@ -146,7 +146,7 @@ module _ (sheet : List ℕ) where
             short_code = w.short_code;
             code_first = omega (arith, w.code_first);
             pool_short = λ k. omega (arith, w.pool_short since, constant_short (body_length sheet at) r, index_last at);
-            indices_short = leb-true (last_index sheet at) 65535 (last_passed _ 25 indexed.1);
+            indices_short = leb-true (last_index sheet at) 65535 (last_passed _ _ indexed.1);
             handlers_first = λ k. absurd (omega arith);
             arguments_there = λ k. absurd (omega arith);
             few_arguments = λ k. absurd (omega arith);
@@ -160,7 +160,7 @@ module _ (sheet : List ℕ) where
           handlers_before = omega arith;
         }
     with_placed EX f r c =
-        let (since, until) = after_pool p.last f in
+        let (since, until) = after_pool (last_number p.last) f in
         let w = h.within in
         record {
           within = record {
@@ -183,7 +183,7 @@ module _ (sheet : List ℕ) where
           handlers_before = omega (arith, h.handlers_before);
         }
     with_placed AR f r c =
-        let (since, until) = after_pool p.last f in
+        let (since, until) = after_pool (last_number p.last) f in
         let w = h.within in
         record {
           within = record {
@@ -195,7 +195,7 @@ module _ (sheet : List ℕ) where
             indices_short = w.indices_short;
             handlers_first = λ k. omega (arith, h.handlers_before);
             arguments_there = λ k. let e = eqb-true (body_length sheet at % 4) 0 r in omega arith;
-            few_arguments = λ k. leb-true _ _ (first_passed _ 27 _ c).0;
+            few_arguments = λ k. leb-true _ _ (first_passed _ _ _ c).0;
             small_stack = w.small_stack;
             small_locals = w.small_locals;
           };
@@ -208,21 +208,21 @@ module _ (sheet : List ℕ) where
 
   record_placed : (at : ℕ) (p : Reading) → Placed sheet at p → Holds (After at) (record_check sheet at p)
   unfolding record_check marked_check Holds
-  record_placed at p h = asked (After at) _ 21 _ (λ _. asked (After at) _ 21 _ (λ there. bound (After at) (known_mark (u16 sheet at)) _ (λ m e.
-      asked (After at) _ 23 _ (λ f. asked (After at) _ 24 _ (λ r. after (After at) (contents_check sheet at p m) _ (λ c. with_placed at p h (leb-true (record_end sheet at) (length sheet) there) m f r c))))))
+  record_placed at p h = asked (After at) _ _ _ (λ _. asked (After at) _ _ _ (λ there. bound (After at) (known_mark (u16 sheet at)) _ (λ m e.
+      asked (After at) _ _ _ (λ f. asked (After at) _ _ _ (λ r. after (After at) (contents_check sheet at p m) _ (λ c. with_placed at p h (leb-true (record_end sheet at) (length sheet) there) m f r c))))))
 
-  pub next_placed : (at : ℕ) (p q : Reading) → Placed sheet at p → record_check sheet at p ≡ passed q → Placed sheet (record_end sheet at) q
+  pub next_placed : (at : ℕ) (p q : Reading) → Placed sheet at p → record_check sheet at p ≡ Ok q → Placed sheet (record_end sheet at) q
   unfolding After
   next_placed at p q h e = held (After at) (record_check sheet at p) q (record_placed at p h) e
 
   -- ---- the whole sheet
 
   Complete : Reading → Type 0
-  Complete p = (Within sheet p) × (p.last ≡ 6)
+  Complete p = (Within sheet p) × (last_number p.last ≡ 6)
 
   end_placed : (at : ℕ) (p : Reading) → Placed sheet at p → Holds Complete (end_check p)
   unfolding Holds Complete
-  end_placed at p h = asked Complete _ 23 _ (λ e. (h.within, eqb-true _ _ e))
+  end_placed at p h = asked Complete _ _ _ (λ e. (h.within, eqb-true _ _ e))
 
   read_placed : (n at : ℕ) (p : Reading) → Placed sheet at p → Holds Complete (read_from n sheet at p)
   unfolding read_from
@@ -252,6 +252,6 @@ module _ (sheet : List ℕ) where
     handlers_before = omega arith;
   }
 
-  pub sheet_within : (p : Reading) → sheet_check sheet ≡ passed p → (Within sheet p) × (p.last ≡ 6)
+  pub sheet_within : (p : Reading) → sheet_check sheet ≡ Ok p → (Within sheet p) × (last_number p.last ≡ 6)
   unfolding sheet_check Complete
   sheet_within p e = held Complete (sheet_check sheet) p (read_placed (length sheet) 0 unread nothing_read) e

@@ -9,8 +9,7 @@ use native.Mathlib.Numerals.{add-one}
 use borrow.Author.Tests.{le-leb, lt-leb}
 use lib.ListN.{length, take, drop, get_or}
 use lib.Seq.{paste, paste-zero, length-paste, take-paste, drop-paste, drop-drop, drop-cons, drop-length, take-append-add, take_all}
-use Rattle.rules.specs.declared.State.{State}
-use Rattle.rules.specs.declared.Pressed.{Pressed}
+use Rattle.rules.specs.declared.states.State.{State}
 use Rattle.rules.specs.Check.{◌else◌}
 use Rattle.rules.specs.Questions.{Method}
 use Rattle.rules.specs.Step.{Decider, Machine, machine_by}
@@ -20,6 +19,7 @@ use Rattle.rules.specs.Walk.{press_of, Walked, walk_of, Demand3}
 use Rattle.rules.specs.Presses.{press_of_byte, presses_of_bytes, answer_words, answers_words, Replayed, replayed, replay_of, plain_walk_in, FromAnyLoad}
 use Rattle.rules.proofs.Lawful.{Lawful}
 use Rattle.rules.proofs.FromSheet.{demand3}
+use Rattle.rules.specs.Decisions.{Pressed}
 
 -- ---- one after the other
 

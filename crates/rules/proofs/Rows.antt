@@ -3,7 +3,6 @@ use Prim.Native.Nat.{ℕ, zero, suc, ◌+◌, ◌-◌, ◌%◌, ◌≤◌, ◌<�
 use mathlib.Core.Path.{◌≡◌, refl, sym, ap, subst}
 use mathlib.Core.Bool.{Bool, true, false, ◌&&◌, ◌||◌, cond}
 use mathlib.Core.List.{List, [], ◌∷◌, map}
-use mathlib.Core.Option.{Option, none, some}
 use native.Mathlib.Omega.{arith}
 use lib.Dec.{leb, ltb, eqb}
 use lib.ListN.{length, get_or, take}
@@ -13,20 +12,21 @@ use Rattle.rules.specs.Forms.{Row, Rule, Operand, Result, pushes, stores, divide
 use Rattle.rules.specs.Instructions.{instructions, row_in, row_of}
 use Rattle.rules.specs.Questions.{locals_below}
 use Rattle.rules.proofs.Check.{and_true}
+use Rattle.std.specs.Prelude.{Some, None, Option}
 
 -- ---- what is computed of every row
 
 -- two functions of a row agree on the row of an opcode, if it has one
 unfoldable pub OfRow : {A : Type 0} → (Row → A) → (Row → A) → Option Row → Type 0
-OfRow f g none = Unit {0}
-OfRow f g (some r) = f r ≡ g r
+OfRow f g None = Unit {0}
+OfRow f g (Some r) = f r ≡ g r
 
 every_row : {A : Type 0} (f g : Row → A) (rs : List Row) → map f rs ≡ map g rs → (n : ℕ) → OfRow f g (row_in rs n)
 unfolding row_in OfRow
 every_row f g [] e n = tt
 every_row f g (r ∷ rs) e n = go (eqb n r.opcode) (row_in rs n) (every_row f g rs (cc) n)
   where
-    go : (t : Bool) (o : Option Row) → OfRow f g o → OfRow f g (cond t (some r) o)
+    go : (t : Bool) (o : Option Row) → OfRow f g o → OfRow f g (cond t (Some r) o)
     go true o h = cc
     go false o h = h
 
@@ -35,32 +35,32 @@ pub every_row_lem : {A : Type 0} (f g : Row → A) → map f instructions ≡ ma
 unfolding row_of
 every_row_lem f g e n = every_row f g instructions e n
 
-pub of_row : {A : Type 0} (f g : Row → A) (o : Option Row) (r : Row) → OfRow f g o → o ≡ some r → f r ≡ g r
+pub of_row : {A : Type 0} (f g : Row → A) (o : Option Row) (r : Row) → OfRow f g o → o ≡ Some r → f r ≡ g r
 unfolding OfRow
 of_row f g o r h e = rw e at h
 
 -- a row is found under its own opcode
 Own : ℕ → Option Row → Type 0
-Own n none = Unit {0}
-Own n (some r) = r.opcode ≡ n
+Own n None = Unit {0}
+Own n (Some r) = r.opcode ≡ n
 
 own : (n : ℕ) (rs : List Row) → Own n (row_in rs n)
 unfolding row_in Own
 own n [] = tt
 own n (r ∷ rs) = go (own n rs) (eqb n r.opcode) refl
   where
-    go : Own n (row_in rs n) → (t : Bool) → eqb n r.opcode ≡ t → Own n (cond t (some r) (row_in rs n))
+    go : Own n (row_in rs n) → (t : Bool) → eqb n r.opcode ≡ t → Own n (cond t (Some r) (row_in rs n))
     go h true e = sym (eqb-true n r.opcode e)
     go h false e = h
 
-pub own_opcode : (n : ℕ) (r : Row) → row_of n ≡ some r → r.opcode ≡ n
+pub own_opcode : (n : ℕ) (r : Row) → row_of n ≡ Some r → r.opcode ≡ n
 unfolding row_of Own
 own_opcode n r e = subst (Own n) e (own n instructions)
 
 below_bound : Row → Bool
 below_bound r = ltb r.opcode 256
 
-pub below_256 : (n : ℕ) (r : Row) → row_of n ≡ some r → n < 256
+pub below_256 : (n : ℕ) (r : Row) → row_of n ≡ Some r → n < 256
 unfolding instructions below_bound
 below_256 n r e =
     let l = ltb-true r.opcode 256 (of_row below_bound (λ r. true) (row_of n) r (every_row_lem below_bound (λ r. true) refl n) e) in
@@ -134,8 +134,8 @@ abbrev pub is_core : ℕ → Bool
 is_core n = between 0 45 n || between 54 78 n || between 87 167 n || between 170 177 n || between 196 196 n || between 198 200 n
 
 abbrev pub is_some : Option Row → Bool
-is_some none = false
-is_some (some r) = true
+is_some None = false
+is_some (Some r) = true
 
 core_all : map is_core (up_to 256) ≡ map (λ n. is_some (row_of n)) (up_to 256)
 unfolding row_of
@@ -146,25 +146,25 @@ core_opcodes = agree is_core (λ n. is_some (row_of n)) 256 core_all
 
 -- iload_<n> to aload_<n> (26 to 45) and istore_<n> to astore_<n> (59 to 78) imply the local <n>: the opcode minus the family's first, modulo 4
 abbrev implied_index : ℕ → Option ℕ
-implied_index n = cond (between 26 45 n) (some ((n - 26) % 4)) (cond (between 59 78 n) (some ((n - 59) % 4)) none)
+implied_index n = cond (between 26 45 n) (Some ((n - 26) % 4)) (cond (between 59 78 n) (Some ((n - 59) % 4)) None)
 
 abbrev index_implied : Format → Option ℕ
-index_implied alone = none
-index_implied (implied x) = some x
-index_implied byte = none
-index_implied short = none
-index_implied index = none
-index_implied index2 = none
-index_implied index_const = none
-index_implied branch = none
-index_implied branch4 = none
-index_implied table = none
-index_implied pairs = none
-index_implied widened = none
+index_implied alone = None
+index_implied (implied x) = Some x
+index_implied byte = None
+index_implied short = None
+index_implied index = None
+index_implied index2 = None
+index_implied index_const = None
+index_implied branch = None
+index_implied branch4 = None
+index_implied table = None
+index_implied pairs = None
+index_implied widened = None
 
 abbrev index_of_row : Option Row → Option ℕ
-index_of_row none = none
-index_of_row (some r) = index_implied r.format
+index_of_row None = None
+index_of_row (Some r) = index_implied r.format
 
 implied_all : map implied_index (up_to 256) ≡ map (λ n. index_of_row (row_of n)) (up_to 256)
 unfolding row_of
@@ -212,7 +212,7 @@ counted_row n = every_row_lem counted said refl n
 works_on_few : Row → Bool
 works_on_few r = leb (works r.rule) 4
 
-pub works_few : (n : ℕ) (r : Row) → row_of n ≡ some r → works r.rule ≤ 4
+pub works_few : (n : ℕ) (r : Row) → row_of n ≡ Some r → works r.rule ≤ 4
 unfolding instructions works_on_few
 works_few n r e = leb-true (works r.rule) 4 (of_row works_on_few (λ r. true) (row_of n) r (every_row_lem works_on_few (λ r. true) refl n) e)
 
@@ -226,7 +226,7 @@ first_four (a ∷ b ∷ c ∷ []) h = refl
 first_four (a ∷ b ∷ c ∷ d ∷ []) h = refl
 first_four (a ∷ b ∷ c ∷ d ∷ e ∷ ws) h = absurd (omega arith)
 
-pub writes_row : (n : ℕ) (r : Row) → row_of n ≡ some r → (o : Operand) (ws : List ℕ) → length ws ≡ works r.rule
+pub writes_row : (n : ℕ) (r : Row) → row_of n ≡ Some r → (o : Operand) (ws : List ℕ) → length ws ≡ works r.rule
     → length (result_words (r.rule.does o ws)) ≡ kind_words r.rule (r.rule.does o ws)
 unfolding counted said
 writes_row n r e o ws l =

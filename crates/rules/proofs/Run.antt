@@ -2,45 +2,44 @@
 use Prim.Native.Nat.{ℕ, zero, suc, ◌+◌, ◌<◌}
 use mathlib.Core.Path.{◌≡◌, refl, ap, ◌∙◌}
 use mathlib.Core.List.{List}
-use mathlib.Core.Option.{some}
 use native.Mathlib.Omega.{arith}
 use lib.ListN.{length}
-use Rattle.rules.specs.declared.State.{State}
-use Rattle.rules.specs.declared.Update.{Update}
-use Rattle.rules.specs.declared.Decision.{Decision}
-use Rattle.rules.specs.declared.Decision.TheVariants.{Ordinary, Return, Throw, Refused}
-use Rattle.rules.specs.declared.End.{End}
-use Rattle.rules.specs.Check.{Check, passed, refused}
+use Rattle.rules.specs.declared.states.State.{State}
+use Rattle.rules.specs.declared.updates.Update.{Update}
+use Rattle.rules.specs.Check.{Check}
 use Rattle.rules.specs.Questions.{frame_check}
 use Rattle.rules.specs.Step.{frame, Decided, Machine, decide_on, moved, written, cleared}
 use Rattle.rules.specs.Run.{Ran, ends, run_from, run_by, run_of, uncounted, steps_of, end_by, Ended, stopped, ended, Account, refused_first, walked}
 use Rattle.rules.proofs.Step.{run_ordinary, run_return, run_throw, run_refused}
 use Rattle.rules.proofs.Lawful.{Lawful}
+use Rattle.std.specs.Prelude.{Ok, Err, Some, None}
+use Rattle.rules.specs.declared.halts.Halt.TheVariants.{Return, Throw, Refused}
+use Rattle.rules.specs.Decisions.{Decision, End}
 
 -- how k steps of a budget b, which led to these slots, ended
 data Ending (x : Machine) (b k : ℕ) (slots : List ℕ) (r : Ran) : Type 0 where
-  at_budget : k ≡ b → r.end ≡ End.Stopped → r.slots ≡ slots → Ending x b k slots r
-  before : k < b → end_by (decide_on x r.state slots).decision ≡ some r.end → r.slots ≡ cleared r.state (decide_on x r.state slots).scratch slots → Ending x b k slots r
+  at_budget : k ≡ b → r.end ≡ None → r.slots ≡ slots → Ending x b k slots r
+  before : k < b → end_by (decide_on x r.state slots).decision ≡ Some r.end → r.slots ≡ cleared r.state (decide_on x r.state slots).scratch slots → Ending x b k slots r
 
 -- a run of k steps from s, n having been taken already
 record Leads (x : Machine) (b n : ℕ) (s : State) (slots : List ℕ) (r : Ran) : Type 0 where
   taken : ℕ
   after : List ℕ
   counted : r.steps ≡ n + taken
-  led : steps_of x taken (uncounted s) slots ≡ some (r.state, after)
+  led : steps_of x taken (uncounted s) slots ≡ Some (r.state, after)
   ending : Ending x b taken after r
 
 module _ (x : Machine) (law : Lawful x) where
   unseen_on : (s : State) (slots : List ℕ) → decide_on x (uncounted s) slots ≡ decide_on x s slots
   unseen_on s slots = law.unseen (length slots) s (frame s slots)
 
-  step_first : (n : ℕ) (s : State) (slots : List ℕ) (u : Update) → (decide_on x s slots).decision ≡ Ordinary u
+  step_first : (n : ℕ) (s : State) (slots : List ℕ) (u : Update) → (decide_on x s slots).decision ≡ Ok u
       → steps_of x (suc n) (uncounted s) slots ≡ steps_of x n (moved s u.pc u.depth 0) (cleared s (decide_on x s slots).scratch (written u slots))
   unfolding steps_of
   step_first n s slots u e = rw (unseen_on s slots, e, steps_of) (rw (unseen_on s slots))
 
   -- an outcome or a refusal at once
-  at_once : (b n : ℕ) (s : State) (slots : List ℕ) (e : End) → end_by (decide_on x s slots).decision ≡ some e
+  at_once : (b n : ℕ) (s : State) (slots : List ℕ) (e : End) → end_by (decide_on x s slots).decision ≡ Some e
       → Leads x (suc b) n s slots (ends s (cleared s (decide_on x s slots).scratch slots) n e)
   unfolding steps_of
   at_once b n s slots e h =
@@ -52,7 +51,7 @@ module _ (x : Machine) (law : Lawful x) where
         ending = before (omega arith) (ap (λ (d : Decided). end_by d.decision) (unseen_on s slots) ∙ h) (rw (unseen_on s slots));
       }
 
-  later : (b n : ℕ) (s : State) (slots : List ℕ) (u : Update) (r : Ran) → (decide_on x s slots).decision ≡ Ordinary u
+  later : (b n : ℕ) (s : State) (slots : List ℕ) (u : Update) (r : Ran) → (decide_on x s slots).decision ≡ Ok u
       → Leads x b (suc n) (moved s u.pc u.depth 0) (cleared s (decide_on x s slots).scratch (written u slots)) r → Leads x (suc b) n s slots r
   later b n s slots u r e h = record {
     taken = suc h.taken;
@@ -75,10 +74,10 @@ module _ (x : Machine) (law : Lawful x) where
       go : (d : Decision) → (decide_on x s slots).decision ≡ d
           → ((u : Update) → Leads x b (suc n) (moved s u.pc u.depth 0) (cleared s (decide_on x s slots).scratch (written u slots)) (run_from x b (suc n) (moved s u.pc u.depth 0) (cleared s (decide_on x s slots).scratch (written u slots))))
           → Leads x (suc b) n s slots (run_from x (suc b) n s slots)
-      go (Ordinary u) e h = rw (run_ordinary x b n s slots u e) (later b n s slots u _ e (h u))
-      go (Return v) e h = rw (run_return x b n s slots v e) (at_once b n s slots (End.Return v) (ap end_by e))
-      go Throw e h = rw (run_throw x b n s slots e) (at_once b n s slots End.Throw (ap end_by e))
-      go (Refused k) e h = rw (run_refused x b n s slots k e) (at_once b n s slots (End.Refused k) (ap end_by e))
+      go (Ok u) e h = rw (run_ordinary x b n s slots u e) (later b n s slots u _ e (h u))
+      go (Err (Return v)) e h = rw (run_return x b n s slots v e) (at_once b n s slots (Some (Return v)) (ap end_by e))
+      go (Err Throw) e h = rw (run_throw x b n s slots e) (at_once b n s slots (Some Throw) (ap end_by e))
+      go (Err (Refused k)) e h = rw (run_refused x b n s slots k e) (at_once b n s slots (Some (Refused k)) (ap end_by e))
 
   -- THE LAW: a run's account of itself
   pub run_account : (budget : ℕ) (s : State) (slots : List ℕ) → Account x budget s slots (run_of x budget s slots)
@@ -90,9 +89,9 @@ module _ (x : Machine) (law : Lawful x) where
       ended_as r k after e (before p q t) = ended (rw e p) q t
 
       go : (c : Check (Unit {0})) → frame_check x.runs s (length slots) ≡ c → Account x budget s slots (run_by x budget s slots c)
-      go (passed u) e =
+      go (Ok u) e =
           let h = run_leads budget 0 s slots in
           let r = run_from x budget 0 s slots in
           let n : r.steps ≡ h.taken = h.counted ∙ omega arith in
           walked h.after e (rw n h.led) (ended_as r h.taken h.after n h.ending)
-      go (refused k) e = refused_first k e refl
+      go (Err k) e = refused_first k e refl

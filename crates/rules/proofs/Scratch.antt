@@ -5,7 +5,7 @@ use mathlib.Core.List.{List, [], ◌∷◌, ◌++◌}
 use native.Mathlib.Omega.{arith}
 use lib.ListN.{length, drop, replicate, length-append, length-replicate, length-drop}
 use lib.Seq.{take_at, drop_at, drop-nil, length-take-le}
-use Rattle.rules.specs.declared.State.{State}
+use Rattle.rules.specs.declared.states.State.{State}
 use Rattle.rules.specs.Questions.{frame_size}
 use Rattle.rules.specs.Step.{frame, beyond, zeroed, cleared}
 

@@ -4,17 +4,17 @@ use Prim.Native.Nat.{ℕ, ◌<◌}
 use mathlib.Core.Path.{◌≡◌, refl, ap, ◌∙◌}
 use mathlib.Core.Bool.{Bool, false, ◌&&◌, ◌||◌, cond}
 use mathlib.Core.List.{List, [], ◌∷◌, map}
-use mathlib.Core.Option.{Option, none, some}
 use lib.Dec.{leb}
 use lib.ListN.{replicate}
 use Rattle.values.specs.Kinds.{Kind, int, long, float, double, reference, any, places_of}
-use Rattle.rules.specs.Check.{Check, passed, refused, ◌else◌, ◌>>◌, ◌>>=◌}
+use Rattle.rules.specs.Check.{Check, ◌else◌, ◌>>◌, ◌>>=◌}
 use Rattle.rules.specs.Forms.{Row}
 use Rattle.rules.specs.Instructions.{row_of}
 use Rattle.rules.specs.OpcodePage.{line_by, line_of}
 use Rattle.rules.specs.Fetch.{Instruction, fetched, wide_check, table_check, lookup_check, pairs_from}
 use Rattle.values.specs.Integers.{signed}
 use Rattle.rules.proofs.Rows.{up_to, agree}
+use Rattle.std.specs.Prelude.{Ok, Err, Some, None, Option}
 
 infix 90 ◌to◌
 abbrev ◌to◌ : ℕ → ℕ → (ℕ × ℕ)
@@ -91,12 +91,12 @@ shapes =
     []
 
 abbrev shape_in : List Shape → ℕ → Option (List Kind × List Kind)
-shape_in [] n = none
-shape_in (s ∷ ss) n = cond (is_in s.opcodes n) (some (s.takes, s.gives)) (shape_in ss n)
+shape_in [] n = None
+shape_in (s ∷ ss) n = cond (is_in s.opcodes n) (Some (s.takes, s.gives)) (shape_in ss n)
 
 abbrev shape_of_row : Option Row → Option (List Kind × List Kind)
-shape_of_row none = none
-shape_of_row (some r) = some (r.rule.takes, r.rule.gives)
+shape_of_row None = None
+shape_of_row (Some r) = Some (r.rule.takes, r.rule.gives)
 
 shapes_all : map (shape_in shapes) (up_to 256) ≡ map (λ n. shape_of_row (row_of n)) (up_to 256)
 unfolding row_of
@@ -105,12 +105,12 @@ shapes_all = refl
 -- ---- so the page's places are those of these kinds
 
 abbrev places_in : Option (List Kind × List Kind) → (ℕ × ℕ)
-places_in none = (0, 0)
-places_in (some p) = (places_of p.0, places_of p.1)
+places_in None = (0, 0)
+places_in (Some p) = (places_of p.0, places_of p.1)
 
 row_places : (n : ℕ) (o : Option Row) → ◌≡◌ {A = ℕ × ℕ} (places_in (shape_of_row o)) ((line_by n o).popped, (line_by n o).pushed)
-row_places n none = refl
-row_places n (some r) = refl
+row_places n None = refl
+row_places n (Some r) = refl
 
 places_all : (n : ℕ) → n < 256 → ◌≡◌ {A = ℕ × ℕ} (places_in (shape_in shapes n)) ((line_of n).popped, (line_of n).pushed)
 unfolding line_of
@@ -133,12 +133,12 @@ named =
     []
 
 abbrev nothing_named : Option (List Kind × List Kind) → (List Kind × List Kind)
-nothing_named none = ([], [])
-nothing_named (some p) = p
+nothing_named None = ([], [])
+nothing_named (Some p) = p
 
 abbrev named_by_row : Option Row → (List Kind × List Kind)
-named_by_row none = ([], [])
-named_by_row (some r) = (r.rule.locals, r.rule.constants)
+named_by_row None = ([], [])
+named_by_row (Some r) = (r.rule.locals, r.rule.constants)
 
 named_all : map (λ n. nothing_named (shape_in named n)) (up_to 256) ≡ map (λ n. named_by_row (row_of n)) (up_to 256)
 unfolding row_of
@@ -175,8 +175,8 @@ lengths_all = refl
 
 -- 0 where question 4 or 5 refuses it, as it does a WIDE before a NOP
 abbrev size_of : Check Instruction → ℕ
-size_of (passed i) = i.size
-size_of (refused n) = 0
+size_of (Ok i) = i.size
+size_of (Err n) = 0
 
 -- an opcode of each format
 sizes : map (λ n. size_of (fetched (n ∷ replicate 31 0) 0)) (0 ∷ 26 ∷ 16 ∷ 17 ∷ 21 ∷ 20 ∷ 132 ∷ 167 ∷ 200 ∷ 170 ∷ 171 ∷ 196 ∷ []) ≡ 1 ∷ 1 ∷ 2 ∷ 3 ∷ 2 ∷ 3 ∷ 3 ∷ 3 ∷ 5 ∷ 20 ∷ 12 ∷ 0 ∷ []

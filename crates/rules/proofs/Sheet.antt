@@ -7,47 +7,49 @@ use native.Mathlib.Omega.{arith}
 use lib.Dec.{ltb, leb, eqb}
 use lib.ListN.{length}
 use borrow.Author.Tests.{ltb-true, leb-true, le-leb, lt-leb, le-ltb, lt-ltb}
-use Rattle.rules.specs.declared.Mark.{Mark}
-use Rattle.rules.specs.declared.Mark.TheVariants.{LM, DS, CD, KI, EX, AR}
-use Rattle.rules.specs.declared.Reading.{Reading}
-use Rattle.rules.specs.Check.{Check, passed, refused, ◌else◌, ◌>>=◌, ◌>>◌}
+use Rattle.rules.specs.declared.sheets.Mark.{Mark}
+use Rattle.rules.specs.declared.sheets.Mark.TheVariants.{LM, DS, CD, KI, EX, AR}
+use Rattle.rules.specs.declared.sheets.Reading.{Reading}
+use Rattle.rules.specs.Check.{Check, ◌else◌, ◌>>=◌, ◌>>◌}
 use Rattle.rules.specs.Fetch.{u16}
 use Rattle.rules.specs.Descriptor.{descriptor_check}
 use Rattle.rules.specs.Handlers.{start_pc, end_pc, handler_pc, catch_type}
 use Rattle.rules.specs.Sheet.{body_length, body_at, record_end, known_mark, follows, right_length, descriptor_at, unread, is_described, with_record, pool_index, pool_tag, pool_word, tag_suits, word_suits, is_catch_type, class_from, is_class_at, last_index, argument_count, contents_check, contents_read, marked_check, record_check, end_check, read_from, sheet_check, Pool, with_value, pool_from, loaded_pool, loaded_slots, accepted_load, refused_load, memory_check, load_of}
 use Rattle.rules.proofs.Check.{Holds, asked, held, bind_same, Any, Numbered, last_numbered, after_numbered, bound_numbered, asked_numbered, either_numbered, refused_numbered}
+use Rattle.std.specs.Prelude.{Ok, Err}
+use Rattle.rules.specs.declared.refusals.Refusal.{Refusal}
 
 -- ---- a record, question by question
 
 module _ (sheet : List ℕ) (at : ℕ) (p : Reading) where
   -- 21
-  pub head_cut : length sheet < body_at at → record_check sheet at p ≡ refused 21
+  pub head_cut : length sheet < body_at at → record_check sheet at p ≡ Err Refusal.RecordCut
   unfolding record_check ◌else◌ ◌>>◌
   head_cut h = simp (lt-leb _ _ h)
 
-  pub body_cut : body_at at ≤ length sheet → length sheet < record_end sheet at → record_check sheet at p ≡ refused 21
+  pub body_cut : body_at at ≤ length sheet → length sheet < record_end sheet at → record_check sheet at p ≡ Err Refusal.RecordCut
   unfolding record_check ◌else◌ ◌>>◌
   body_cut h k = simp (le-leb _ _ h, lt-leb _ _ k)
 
   module _ (head : body_at at ≤ length sheet) (there : record_end sheet at ≤ length sheet) where
     -- 22
-    pub unknown : (k : ℕ) → known_mark (u16 sheet at) ≡ refused k → record_check sheet at p ≡ refused k
+    pub unknown : (k : Refusal) → known_mark (u16 sheet at) ≡ Err k → record_check sheet at p ≡ Err k
     unfolding record_check ◌else◌ ◌>>◌ ◌>>=◌
     unknown k e = simp (le-leb _ _ head, le-leb _ _ there, e)
 
-    pub marked : (m : Mark) → known_mark (u16 sheet at) ≡ passed m → record_check sheet at p ≡ marked_check sheet at p m
+    pub marked : (m : Mark) → known_mark (u16 sheet at) ≡ Ok m → record_check sheet at p ≡ marked_check sheet at p m
     unfolding record_check ◌else◌ ◌>>◌ ◌>>=◌
     marked m e = simp (le-leb _ _ head, le-leb _ _ there, e)
 
   module _ (m : Mark) where
     -- 23
-    pub disordered : follows m p.last ≡ false → marked_check sheet at p m ≡ refused 23
+    pub disordered : follows m p.last ≡ false → marked_check sheet at p m ≡ Err Refusal.RecordOrder
     unfolding marked_check ◌else◌ ◌>>◌
     disordered h = simp h
 
     module _ (ordered : follows m p.last ≡ true) where
       -- 24
-      pub wrong_length : right_length m (body_length sheet at) ≡ false → marked_check sheet at p m ≡ refused 24
+      pub wrong_length : right_length m (body_length sheet at) ≡ false → marked_check sheet at p m ≡ Err Refusal.RecordLength
       unfolding marked_check ◌else◌ ◌>>◌
       wrong_length h = simp (ordered, h)
 
@@ -55,84 +57,84 @@ module _ (sheet : List ℕ) (at : ℕ) (p : Reading) where
       unfolding marked_check ◌else◌ ◌>>◌
       read_on h = simp (ordered, h)
 
-    pub bad_contents : (k : ℕ) → contents_check sheet at p m ≡ refused k → contents_read sheet at p m ≡ refused k
+    pub bad_contents : (k : Refusal) → contents_check sheet at p m ≡ Err k → contents_read sheet at p m ≡ Err k
     unfolding ◌>>◌
     bad_contents k h = simp h
 
-    pub good_contents : contents_check sheet at p m ≡ passed tt → contents_read sheet at p m ≡ passed (with_record sheet at m p)
+    pub good_contents : contents_check sheet at p m ≡ Ok tt → contents_read sheet at p m ≡ Ok (with_record sheet at m p)
     unfolding ◌>>◌
     good_contents h = simp h
 
   -- 25
-  pub tag_unfit : tag_suits (pool_tag sheet at) (body_length sheet at) ≡ false → contents_check sheet at p KI ≡ refused 25
+  pub tag_unfit : tag_suits (pool_tag sheet at) (body_length sheet at) ≡ false → contents_check sheet at p KI ≡ Err Refusal.ConstantRecord
   unfolding contents_check ◌else◌ ◌>>◌
   tag_unfit h = simp h
 
   module _ (suits : tag_suits (pool_tag sheet at) (body_length sheet at) ≡ true) where
-    pub word_unfit : word_suits (pool_tag sheet at) (pool_word sheet at) ≡ false → contents_check sheet at p KI ≡ refused 25
+    pub word_unfit : word_suits (pool_tag sheet at) (pool_word sheet at) ≡ false → contents_check sheet at p KI ≡ Err Refusal.ConstantRecord
     unfolding contents_check ◌else◌ ◌>>◌
     word_unfit h = simp (suits, h)
 
     module _ (worded : word_suits (pool_tag sheet at) (pool_word sheet at) ≡ true) where
-      pub index_used : pool_index sheet at ≤ p.used → contents_check sheet at p KI ≡ refused 25
+      pub index_used : pool_index sheet at ≤ p.used → contents_check sheet at p KI ≡ Err Refusal.ConstantRecord
       unfolding contents_check ◌else◌ ◌>>◌
       index_used h = simp (suits, worded, le-ltb _ _ h)
 
       module _ (above : p.used < pool_index sheet at) where
-        pub index_past : 65535 < last_index sheet at → contents_check sheet at p KI ≡ refused 25
+        pub index_past : 65535 < last_index sheet at → contents_check sheet at p KI ≡ Err Refusal.ConstantRecord
         unfolding contents_check ◌else◌ ◌>>◌
         index_past h = simp (suits, worded, lt-ltb _ _ above, lt-leb _ _ h)
 
-        pub constant_read : last_index sheet at ≤ 65535 → contents_check sheet at p KI ≡ passed tt
+        pub constant_read : last_index sheet at ≤ 65535 → contents_check sheet at p KI ≡ Ok tt
         unfolding contents_check ◌else◌ ◌>>◌
         constant_read h = simp (suits, worded, lt-ltb _ _ above, le-leb _ _ h)
 
   -- 33
-  pub handler_cut : eqb (body_length sheet at) 8 ≡ false → contents_check sheet at p EX ≡ refused 33
+  pub handler_cut : eqb (body_length sheet at) 8 ≡ false → contents_check sheet at p EX ≡ Err Refusal.HandlerRecord
   unfolding contents_check ◌else◌ ◌>>◌
   handler_cut h = simp h
 
   module _ (eight : eqb (body_length sheet at) 8 ≡ true) where
-    pub no_range : end_pc sheet at ≤ start_pc sheet at → contents_check sheet at p EX ≡ refused 33
+    pub no_range : end_pc sheet at ≤ start_pc sheet at → contents_check sheet at p EX ≡ Err Refusal.HandlerRecord
     unfolding contents_check ◌else◌ ◌>>◌
     no_range h = simp (eight, le-ltb _ _ h)
 
     module _ (some : start_pc sheet at < end_pc sheet at) where
-      pub start_past : p.code_length ≤ start_pc sheet at → contents_check sheet at p EX ≡ refused 33
+      pub start_past : p.code_length ≤ start_pc sheet at → contents_check sheet at p EX ≡ Err Refusal.HandlerRecord
       unfolding contents_check ◌else◌ ◌>>◌
       start_past h = simp (eight, lt-ltb _ _ some, le-ltb _ _ h)
 
       module _ (start_inside : start_pc sheet at < p.code_length) where
-        pub handler_past : p.code_length ≤ handler_pc sheet at → contents_check sheet at p EX ≡ refused 33
+        pub handler_past : p.code_length ≤ handler_pc sheet at → contents_check sheet at p EX ≡ Err Refusal.HandlerRecord
         unfolding contents_check ◌else◌ ◌>>◌
         handler_past h = simp (eight, lt-ltb _ _ some, lt-ltb _ _ start_inside, le-ltb _ _ h)
 
         module _ (handler_inside : handler_pc sheet at < p.code_length) where
-          pub end_past : p.code_length < end_pc sheet at → contents_check sheet at p EX ≡ refused 33
+          pub end_past : p.code_length < end_pc sheet at → contents_check sheet at p EX ≡ Err Refusal.HandlerRecord
           unfolding contents_check ◌else◌ ◌>>◌
           end_past h = simp (eight, lt-ltb _ _ some, lt-ltb _ _ start_inside, lt-ltb _ _ handler_inside, lt-leb _ _ h)
 
           module _ (whole : end_pc sheet at ≤ p.code_length) where
-            pub no_catch_type : is_catch_type sheet p (catch_type sheet at) ≡ false → contents_check sheet at p EX ≡ refused 33
+            pub no_catch_type : is_catch_type sheet p (catch_type sheet at) ≡ false → contents_check sheet at p EX ≡ Err Refusal.HandlerRecord
             unfolding contents_check ◌else◌ ◌>>◌
             no_catch_type h = simp (eight, lt-ltb _ _ some, lt-ltb _ _ start_inside, lt-ltb _ _ handler_inside, le-leb _ _ whole, h)
 
-            pub handler_read : is_catch_type sheet p (catch_type sheet at) ≡ true → contents_check sheet at p EX ≡ passed tt
+            pub handler_read : is_catch_type sheet p (catch_type sheet at) ≡ true → contents_check sheet at p EX ≡ Ok tt
             unfolding contents_check ◌else◌ ◌>>◌
             handler_read h = simp (eight, lt-ltb _ _ some, lt-ltb _ _ start_inside, lt-ltb _ _ handler_inside, le-leb _ _ whole, h)
 
   -- 27
-  pub too_many : p.max_locals < argument_count sheet at → contents_check sheet at p AR ≡ refused 27
+  pub too_many : p.max_locals < argument_count sheet at → contents_check sheet at p AR ≡ Err Refusal.TooManyArguments
   unfolding contents_check ◌else◌ ◌>>◌
   too_many h = simp (lt-leb _ _ h)
 
   module _ (few : argument_count sheet at ≤ p.max_locals) where
     -- 31
-    pub wrong_count : (not (is_described p) || eqb (argument_count sheet at) p.parameter_places) ≡ false → contents_check sheet at p AR ≡ refused 31
+    pub wrong_count : (not (is_described p) || eqb (argument_count sheet at) p.parameter_places) ≡ false → contents_check sheet at p AR ≡ Err Refusal.Descriptor
     unfolding contents_check ◌else◌ ◌>>◌
     wrong_count h = simp (le-leb _ _ few, h)
 
-    pub arguments_read : (not (is_described p) || eqb (argument_count sheet at) p.parameter_places) ≡ true → contents_check sheet at p AR ≡ passed tt
+    pub arguments_read : (not (is_described p) || eqb (argument_count sheet at) p.parameter_places) ≡ true → contents_check sheet at p AR ≡ Ok tt
     unfolding contents_check ◌else◌ ◌>>◌
     arguments_read h = simp (le-leb _ _ few, h)
 
@@ -142,13 +144,13 @@ Ends sheet at r = record_end sheet at ≤ length sheet
 
 always : (sheet : List ℕ) (at : ℕ) (x : Check Reading) → record_end sheet at ≤ length sheet → Holds (Ends sheet at) x
 unfolding Holds Ends
-always sheet at (passed r) h = h
-always sheet at (refused n) h = tt
+always sheet at (Ok r) h = h
+always sheet at (Err n) h = tt
 
-pub record_there : (sheet : List ℕ) (at : ℕ) (p q : Reading) → record_check sheet at p ≡ passed q → record_end sheet at ≤ length sheet
+pub record_there : (sheet : List ℕ) (at : ℕ) (p q : Reading) → record_check sheet at p ≡ Ok q → record_end sheet at ≤ length sheet
 unfolding record_check Ends
 record_there sheet at p q e =
-    held (Ends sheet at) (record_check sheet at p) q (asked (Ends sheet at) _ 21 _ (λ _. asked (Ends sheet at) _ 21 _ (λ h. always sheet at _ (leb-true _ _ h)))) e
+    held (Ends sheet at) (record_check sheet at p) q (asked (Ends sheet at) _ _ _ (λ _. asked (Ends sheet at) _ _ _ (λ h. always sheet at _ (leb-true _ _ h)))) e
 
 -- ---- record by record: as many turns as there are bytes left are enough
 
@@ -176,12 +178,12 @@ module _ (sheet : List ℕ) where
         ∙ ap (λ (t : Bool). cond t (end_check p) (record_check sheet at p >>= λ q. read_from n sheet (record_end sheet at) q)) (lt-leb (length sheet) at more)
         ∙ bind_same (record_check sheet at p) _ _ (λ q. read_enough n (length sheet - record_end sheet at) (record_end sheet at) q (omega arith) (omega arith))
 
-    pub next_record : (q : Reading) → record_check sheet at p ≡ passed q
+    pub next_record : (q : Reading) → record_check sheet at p ≡ Ok q
         → read_from (length sheet - at) sheet at p ≡ read_from (length sheet - record_end sheet at) sheet (record_end sheet at) q
     unfolding ◌>>=◌
     next_record q e = rw e at one_record
 
-    pub bad_record : (k : ℕ) → record_check sheet at p ≡ refused k → read_from (length sheet - at) sheet at p ≡ refused k
+    pub bad_record : (k : Refusal) → record_check sheet at p ≡ Err k → read_from (length sheet - at) sheet at p ≡ Err k
     unfolding ◌>>=◌
     bad_record k e = rw e at one_record
 
@@ -233,69 +235,19 @@ module _ (sheet : List ℕ) (end index : ℕ) where
       ∙ ap (λ (t : Bool). cond t false (is_class_at sheet at index || class_from n sheet (record_end sheet at) end index)) (lt-leb end at more)
       ∙ ap (λ (x : Bool). is_class_at sheet at index || x) (class_enough n (end - record_end sheet at) (record_end sheet at) (omega arith) (omega arith))
 
--- ---- a sheet is refused with a number above 0
-
-abbrev Above : ℕ → Type 0
-Above n = ltb 0 n ≡ true
-
-module _ (sheet : List ℕ) where
-  mark_numbered : (n : ℕ) → Numbered Above Any (known_mark n)
-  unfolding Numbered
-  mark_numbered n = either_numbered Above Any (eqb n 0x4C4D) _ _ tt (either_numbered Above Any (eqb n 0x4453) _ _ tt (either_numbered Above Any (eqb n 0x4344) _ _ tt (either_numbered Above Any (eqb n 0x4B49) _ _ tt (either_numbered Above Any (eqb n 0x4558) _ _ tt (either_numbered Above Any (eqb n 0x4152) _ _ tt refl)))))
-
-  descriptor_numbered : (d : List ℕ) → Numbered Above Any (descriptor_check d)
-  unfolding descriptor_check
-  descriptor_numbered d = asked_numbered Above Any _ 31 _ refl (asked_numbered Above Any _ 31 _ refl (asked_numbered Above Any _ 31 _ refl (last_numbered Above _ 31 refl)))
-
-  contents_numbered : (at : ℕ) (p : Reading) (m : Mark) → Numbered Above Any (contents_check sheet at p m)
-  unfolding contents_check Numbered
-  contents_numbered at p LM = tt
-  contents_numbered at p DS = descriptor_numbered (descriptor_at sheet at)
-  contents_numbered at p CD = tt
-  contents_numbered at p KI = asked_numbered Above Any _ 25 _ refl (asked_numbered Above Any _ 25 _ refl (asked_numbered Above Any _ 25 _ refl (last_numbered Above _ 25 refl)))
-  contents_numbered at p EX =
-      asked_numbered Above Any _ 33 _ refl (asked_numbered Above Any _ 33 _ refl (asked_numbered Above Any _ 33 _ refl (asked_numbered Above Any _ 33 _ refl (asked_numbered Above Any _ 33 _ refl (last_numbered Above _ 33 refl)))))
-  contents_numbered at p AR = asked_numbered Above Any _ 27 _ refl (last_numbered Above _ 31 refl)
-
-  record_numbered : (at : ℕ) (p : Reading) → Numbered Above Any (record_check sheet at p)
-  unfolding record_check marked_check Numbered
-  record_numbered at p =
-      asked_numbered Above Any _ 21 _ refl (asked_numbered Above Any _ 21 _ refl (bound_numbered Above Any (known_mark (u16 sheet at)) _ (mark_numbered (u16 sheet at)) (λ m.
-      asked_numbered Above Any _ 23 _ refl (asked_numbered Above Any _ 24 _ refl (after_numbered Above Any (contents_check sheet at p m) _ (contents_numbered at p m) tt)))))
-
-  end_numbered : (p : Reading) → Numbered Above Any (end_check p)
-  unfolding Numbered
-  end_numbered p = asked_numbered Above Any _ 23 _ refl tt
-
-  read_numbered : (n at : ℕ) (p : Reading) → Numbered Above Any (read_from n sheet at p)
-  unfolding read_from
-  read_numbered zero at p = end_numbered p
-  read_numbered (suc n) at p =
-      either_numbered Above Any (leb (length sheet) at) _ _ (end_numbered p) (bound_numbered Above Any (record_check sheet at p) _ (record_numbered at p) (λ q. read_numbered n (record_end sheet at) q))
-
-  pub sheet_numbered : (k : ℕ) → sheet_check sheet ≡ refused k → 0 < k
-  unfolding sheet_check
-  sheet_numbered k e = ltb-true 0 k (refused_numbered Above Any (sheet_check sheet) k (read_numbered (length sheet) 0 unread) e)
-
-pub memory_above : (p : Reading) (slots kinds words : List ℕ) (k : ℕ) → memory_check p slots kinds words ≡ refused k → 0 < k
-unfolding memory_check
-memory_above p slots kinds words k e =
-    ltb-true 0 k (refused_numbered Above Any (memory_check p slots kinds words) k
-    (asked_numbered Above Any _ 26 _ refl (asked_numbered Above Any _ 26 _ refl (asked_numbered Above Any _ 26 _ refl (last_numbered Above _ 26 refl)))) e)
-
 -- ---- the load by the answers to its questions
 
 module _ (sheet slots kinds words : List ℕ) where
-  pub load_refused : (n : ℕ) → sheet_check sheet ≡ refused n → record { loaded = refused_load n; slots = slots; kinds = kinds; words = words } ≡ load_of sheet slots kinds words
+  pub load_refused : (n : Refusal) → sheet_check sheet ≡ Err n → record { loaded = refused_load n; slots = slots; kinds = kinds; words = words } ≡ load_of sheet slots kinds words
   unfolding load_of ◌>>=◌
   load_refused n e = rw e
 
-  module _ (p : Reading) (read : sheet_check sheet ≡ passed p) where
-    pub load_short : (n : ℕ) → memory_check p slots kinds words ≡ refused n → record { loaded = refused_load n; slots = slots; kinds = kinds; words = words } ≡ load_of sheet slots kinds words
+  module _ (p : Reading) (read : sheet_check sheet ≡ Ok p) where
+    pub load_short : (n : Refusal) → memory_check p slots kinds words ≡ Err n → record { loaded = refused_load n; slots = slots; kinds = kinds; words = words } ≡ load_of sheet slots kinds words
     unfolding load_of ◌>>=◌ ◌>>◌
     load_short n e = rw (read, e)
 
-    pub load_accepted : memory_check p slots kinds words ≡ passed tt → (filled : Pool) → filled ≡ loaded_pool sheet p kinds words
+    pub load_accepted : memory_check p slots kinds words ≡ Ok tt → (filled : Pool) → filled ≡ loaded_pool sheet p kinds words
         → record { loaded = accepted_load p; slots = loaded_slots sheet p slots; kinds = filled.kinds; words = filled.words } ≡ load_of sheet slots kinds words
     unfolding load_of ◌>>=◌ ◌>>◌
     load_accepted e filled f = rw (read, e, f)

@@ -6,24 +6,25 @@ use lib.IntN.{pos}
 use lib.ListN.{length}
 use borrow.Author.Tests.{lt-ltb, le-ltb}
 use Rattle.values.specs.declared.Value.{Value}
-use Rattle.rules.specs.declared.State.{State}
-use Rattle.rules.specs.declared.Update.{Update}
-use Rattle.rules.specs.declared.Decision.TheVariants.{Ordinary, Return, Throw, Refused}
-use Rattle.rules.specs.declared.End.TheVariants as End
-use Rattle.rules.specs.Check.{passed, refused, ◌else◌, ◌>>◌, ◌>>=◌}
+use Rattle.rules.specs.declared.states.State.{State}
+use Rattle.rules.specs.declared.updates.Update.{Update}
+use Rattle.rules.specs.Check.{◌else◌, ◌>>◌, ◌>>=◌}
 use Rattle.rules.specs.Forms.{Result}
 use Rattle.rules.specs.Fetch.{Instruction, fetched}
 use Rattle.rules.specs.Questions.{Method, frame_check, needs_check}
 use Rattle.rules.specs.Step.{words_at, inside, outcome, decision, decide_frame, Machine, decide_on, moved, written, cleared}
 use Rattle.rules.specs.Run.{ends, run_from}
+use Rattle.std.specs.Prelude.{Ok, Err, Some, None}
+use Rattle.rules.specs.declared.refusals.Refusal.{Refusal}
+use Rattle.rules.specs.declared.halts.Halt.TheVariants.{Return, Throw, Refused}
 
 -- ---- question 10
 
-pub next_inside : (code : List ℕ) (n : ℕ) → n < length code → inside code (pos n) ≡ passed n
+pub next_inside : (code : List ℕ) (n : ℕ) → n < length code → inside code (pos n) ≡ Ok n
 unfolding ◌else◌ ◌>>◌
 next_inside code n h = simp (lt-ltb _ _ h)
 
-pub next_outside : (code : List ℕ) (n : ℕ) → length code ≤ n → inside code (pos n) ≡ refused 11
+pub next_outside : (code : List ℕ) (n : ℕ) → length code ≤ n → inside code (pos n) ≡ Err Refusal.Target
 unfolding ◌else◌ ◌>>◌
 next_outside code n h = simp (le-ltb _ _ h)
 
@@ -34,45 +35,45 @@ abbrev pub result : Method → State → List ℕ → Instruction → Result
 result l s words i = i.rule.does i.operand (words_at i.rule.reads l s words i)
 
 module _ (l : Method) (n : ℕ) (s : State) (words : List ℕ) where
-  pub refused_by_frame : (k : ℕ) → frame_check l s n ≡ refused k → decide_frame l n s words ≡ Refused k
+  pub refused_by_frame : (k : Refusal) → frame_check l s n ≡ Err k → decide_frame l n s words ≡ Err (Refused k)
   unfolding decide_frame ◌>>◌
   refused_by_frame k e = rw e
 
-  module _ (framed : frame_check l s n ≡ passed tt) where
-    pub refused_by_fetch : (k : ℕ) → fetched l.code s.pc ≡ refused k → decide_frame l n s words ≡ Refused k
+  module _ (framed : frame_check l s n ≡ Ok tt) where
+    pub refused_by_fetch : (k : Refusal) → fetched l.code s.pc ≡ Err k → decide_frame l n s words ≡ Err (Refused k)
     unfolding decide_frame ◌>>◌ ◌>>=◌
     refused_by_fetch k e = rw (framed, e)
 
-    module _ (i : Instruction) (at : fetched l.code s.pc ≡ passed i) where
-      pub refused_by_needs : (k : ℕ) → needs_check l s i ≡ refused k → decide_frame l n s words ≡ Refused k
+    module _ (i : Instruction) (at : fetched l.code s.pc ≡ Ok i) where
+      pub refused_by_needs : (k : Refusal) → needs_check l s i ≡ Err k → decide_frame l n s words ≡ Err (Refused k)
       unfolding decide_frame ◌>>◌ ◌>>=◌
       refused_by_needs k e = rw (framed, at, e)
 
-      pub decided : needs_check l s i ≡ passed tt → decide_frame l n s words ≡ decision (outcome l s i (result l s words i))
+      pub decided : needs_check l s i ≡ Ok tt → decide_frame l n s words ≡ decision (outcome l s i (result l s words i))
       unfolding decide_frame ◌>>◌ ◌>>=◌
       decided e = rw (framed, at, e)
 
 -- ---- the run, n steps being taken already
 
 module _ (x : Machine) (b n : ℕ) (s : State) (slots : List ℕ) where
-  pub run_ordinary : (u : Update) → (decide_on x s slots).decision ≡ Ordinary u
+  pub run_ordinary : (u : Update) → (decide_on x s slots).decision ≡ Ok u
       → run_from x (suc b) n s slots ≡ run_from x b (suc n) (moved s u.pc u.depth 0) (cleared s (decide_on x s slots).scratch (written u slots))
   unfolding run_from
   run_ordinary u e = rw (e, run_from)
 
-  pub run_return : (v : Value) → (decide_on x s slots).decision ≡ Return v → run_from x (suc b) n s slots ≡ ends s (cleared s (decide_on x s slots).scratch slots) n (End.Return v)
+  pub run_return : (v : Value) → (decide_on x s slots).decision ≡ Err (Return v) → run_from x (suc b) n s slots ≡ ends s (cleared s (decide_on x s slots).scratch slots) n (Some (Return v))
   unfolding run_from
   run_return v e = rw (e, run_from)
 
-  pub run_throw : (decide_on x s slots).decision ≡ Throw → run_from x (suc b) n s slots ≡ ends s (cleared s (decide_on x s slots).scratch slots) n End.Throw
+  pub run_throw : (decide_on x s slots).decision ≡ (Err Throw) → run_from x (suc b) n s slots ≡ ends s (cleared s (decide_on x s slots).scratch slots) n (Some Throw)
   unfolding run_from
   run_throw e = rw (e, run_from)
 
-  pub run_refused : (k : ℕ) → (decide_on x s slots).decision ≡ Refused k → run_from x (suc b) n s slots ≡ ends s (cleared s (decide_on x s slots).scratch slots) n (End.Refused k)
+  pub run_refused : (k : Refusal) → (decide_on x s slots).decision ≡ Err (Refused k) → run_from x (suc b) n s slots ≡ ends s (cleared s (decide_on x s slots).scratch slots) n (Some (Refused k))
   unfolding run_from
   run_refused k e = rw (e, run_from)
 
 -- with no budget left there is no further look
-pub run_stopped : (x : Machine) (n : ℕ) (s : State) (slots : List ℕ) → run_from x zero n s slots ≡ ends s slots n End.Stopped
+pub run_stopped : (x : Machine) (n : ℕ) (s : State) (slots : List ℕ) → run_from x zero n s slots ≡ ends s slots n None
 unfolding run_from
 run_stopped x n s slots = refl

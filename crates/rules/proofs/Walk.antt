@@ -2,7 +2,6 @@
 use Prim.Native.Nat.{ℕ, zero, suc, ◌+◌, ◌-◌, ◌*◌, ◌≤◌, max}
 use mathlib.Core.Path.{◌≡◌, refl, sym, ap, ◌∙◌}
 use mathlib.Core.Bool.{Bool, true, false, cond}
-use mathlib.Core.Option.{Option, none, some}
 use mathlib.Core.List.{List, [], ◌∷◌, ◌++◌}
 use native.Mathlib.Omega.{arith}
 use native.Mathlib.Nat.{zero-add, add-zero}
@@ -10,11 +9,7 @@ use borrow.Author.Tests.{ltb-true}
 use lib.ListN.{length, take-append-drop}
 use lib.Seq.{length-take-le}
 use lib.Dec.{ltb, leb}
-use Rattle.rules.specs.declared.State.{State}
-use Rattle.rules.specs.declared.Decision.{Decision}
-use Rattle.rules.specs.declared.Pressed.{Pressed}
-use Rattle.rules.specs.declared.Pressed.TheVariants.{Granted, Return, Throw, Refused}
-use Rattle.rules.specs.declared.End.TheVariants as End
+use Rattle.rules.specs.declared.states.State.{State}
 use Rattle.rules.specs.Check.{◌else◌}
 use Rattle.rules.specs.Questions.{frame_size}
 use Rattle.rules.specs.Step.{frame, beyond, Decided, Machine, decide_on, moved, update_words, written, zeroed, cleared}
@@ -29,6 +24,10 @@ use Rattle.rules.proofs.Lawful.{Lawful, ordinary_by}
 use Rattle.rules.proofs.Pasted.{take_front, drop_front}
 use Rattle.rules.proofs.Scratch.{zeroed_twice, frame_cleared, beyond_cleared, length_cleared}
 use Rattle.rules.proofs.OnePress.{SameMethod, decides, Stands, press_agrees}
+use Rattle.std.specs.Prelude.{Ok, Err, None, Some, Option}
+use Rattle.rules.specs.declared.refusals.Refusal.{Refusal}
+use Rattle.rules.specs.declared.halts.Halt.TheVariants.{Return, Throw, Refused}
+use Rattle.rules.specs.Decisions.{Decision, Pressed}
 
 -- ---- a list of presses follows the plain walk, from any net on
 
@@ -53,13 +52,13 @@ module _ (f : PlainWalk) (law : Lawful f.machine) where
   moves forward net = go (plain_answer f forward net)
     where
       go : (a : Pressed) → net_after forward net a + one back forward a ≡ net + one forward forward a
-      go Granted = omega arith
-      go (Return v) = refl
-      go Throw = refl
-      go (Refused n) = refl
+      go (Ok t) = omega arith
+      go (Err (Return v)) = refl
+      go (Err Throw) = refl
+      go (Err (Refused n)) = refl
   moves back net = go (ltb 0 net) refl
     where
-      go : (b : Bool) → ltb 0 net ≡ b → net_after back net (cond b Granted (Refused 13)) + one back back (cond b Granted (Refused 13)) ≡ net + 0
+      go : (b : Bool) → ltb 0 net ≡ b → net_after back net (cond b (Ok tt) (Err (Refused Refusal.NothingToTakeBack))) + one back back (cond b (Ok tt) (Err (Refused Refusal.NothingToTakeBack))) ≡ net + 0
       go true e = omega (arith, ltb-true 0 net e)
       go false e = refl
 
@@ -76,22 +75,22 @@ module _ (f : PlainWalk) (law : Lawful f.machine) where
   unfolding plain_answer ◌else◌
   not_14 forward net = of_stage (stage f net)
     where
-      of_log : (b : Bool) → refused_with 14 (check_answer (b else 12)) ≡ 0
+      of_log : (b : Bool) → refused_with 14 (check_answer (b else Refusal.LogFull)) ≡ 0
       of_log true = refl
       of_log false = refl
 
       of_decision : (d : Decision) → IfRefused Not14 d → refused_with 14 (forward_answer f.log net d) ≡ 0
-      of_decision (Decision.Ordinary u) h = of_log (leb (10 * net + 10) f.log)
-      of_decision (Decision.Return v) h = refl
-      of_decision Decision.Throw h = refl
-      of_decision (Decision.Refused n) h = rw h
+      of_decision (Ok u) h = of_log (leb (10 * net + 10) f.log)
+      of_decision (Err (Return v)) h = refl
+      of_decision (Err Throw) h = refl
+      of_decision (Err (Refused n)) h = rw h
 
       of_stage : (o : Option Stage) → refused_with 14 (forward_answer f.log net (decision_of f o)) ≡ 0
-      of_stage none = refl
-      of_stage (some t) = of_decision (decision_at f t).decision (law.numbered f.slots (moved f.state t.pc t.depth 0) t.frame)
+      of_stage None = refl
+      of_stage (Some t) = of_decision (decision_at f t).decision (law.numbered f.slots (moved f.state t.pc t.depth 0) t.frame)
   not_14 back net = of_net (ltb 0 net)
     where
-      of_net : (b : Bool) → refused_with 14 (cond b Granted (Refused 13)) ≡ 0
+      of_net : (b : Bool) → refused_with 14 (cond b (Ok tt) (Err (Refused Refusal.NothingToTakeBack))) ≡ 0
       of_net true = refl
       of_net false = refl
 
@@ -103,17 +102,17 @@ module _ (f : PlainWalk) (law : Lawful f.machine) where
   -- ---- a run of n steps, from where stage n exists, ends there
 
   -- stages counted from the next one, and the scratch between them
-  stage_shift : (t u : Stage) → next f (some t) ≡ some u → (n : ℕ) → stage_from f t (suc n) ≡ stage_from f u n
+  stage_shift : (t u : Stage) → next f (Some t) ≡ Some u → (n : ℕ) → stage_from f t (suc n) ≡ stage_from f u n
   unfolding stage_from
   stage_shift t u q zero = q
   stage_shift t u q (suc n) = ap (next f) (stage_shift t u q n)
 
-  stage_none : (t : Stage) → next f (some t) ≡ none → (n : ℕ) → stage_from f t (suc n) ≡ none
+  stage_none : (t : Stage) → next f (Some t) ≡ None → (n : ℕ) → stage_from f t (suc n) ≡ None
   unfolding stage_from
   stage_none t q zero = q
   stage_none t q (suc n) = ap (next f) (stage_none t q n)
 
-  scratch_shift : (t u : Stage) → next f (some t) ≡ some u → (n : ℕ) → scratch_from f t (suc n) ≡ max (decision_at f t).scratch (scratch_from f u n)
+  scratch_shift : (t u : Stage) → next f (Some t) ≡ Some u → (n : ℕ) → scratch_from f t (suc n) ≡ max (decision_at f t).scratch (scratch_from f u n)
   unfolding scratch_from stage_from
   scratch_shift t u q zero = omega arith
   scratch_shift t u q (suc n) =
@@ -128,8 +127,8 @@ module _ (f : PlainWalk) (law : Lawful f.machine) where
   RunsTo : ℕ → Type 0
   RunsTo n =
       (k : ℕ) (s : State) (slots : List ℕ) (u : Stage) → SameMethod s f.state → Framed f.machine.runs s (length slots) → length slots ≡ f.slots
-      → stage_from f (stage_of s slots) n ≡ some u
-      → run_from f.machine n k s slots ≡ record { state = moved s u.pc u.depth 0; steps = k + n; end = End.Stopped; slots = u.frame ++ zeroed (scratch_from f (stage_of s slots) n) (beyond s slots) }
+      → stage_from f (stage_of s slots) n ≡ Some u
+      → run_from f.machine n k s slots ≡ record { state = moved s u.pc u.depth 0; steps = k + n; end = None; slots = u.frame ++ zeroed (scratch_from f (stage_of s slots) n) (beyond s slots) }
 
   one_more_run : (n : ℕ) → RunsTo n → RunsTo (suc n)
   unfolding RunsTo
@@ -138,12 +137,12 @@ module _ (f : PlainWalk) (law : Lawful f.machine) where
       staged : decide_on f.machine s slots ≡ decision_at f (stage_of s slots)
       staged = decides f law s slots m long
 
-      ends_here : next f (some (stage_of s slots)) ≡ none → ⊥
+      ends_here : next f (Some (stage_of s slots)) ≡ None → ⊥
       ends_here e = let x = stage_none (stage_of s slots) e n in let z : ◌≡◌ {A = ℕ} 0 1 = cc in omega arith
 
       go : (d : Decision) → (decide_on f.machine s slots).decision ≡ d
-          → run_from f.machine (suc n) k s slots ≡ record { state = moved s u.pc u.depth 0; steps = k + suc n; end = End.Stopped; slots = u.frame ++ zeroed (scratch_from f (stage_of s slots) (suc n)) (beyond s slots) }
-      go (Decision.Ordinary v) e =
+          → run_from f.machine (suc n) k s slots ≡ record { state = moved s u.pc u.depth 0; steps = k + suc n; end = None; slots = u.frame ++ zeroed (scratch_from f (stage_of s slots) (suc n)) (beyond s slots) }
+      go (Ok v) e =
           let h = ordinary_by f.machine law (length slots) s (frame s slots) v e in
           let room = g.room in
           let same : (decide_on f.machine s slots).scratch ≡ (decision_at f (stage_of s slots)).scratch = ap (λ (d : Decided). d.scratch) staged in
@@ -156,16 +155,16 @@ module _ (f : PlainWalk) (law : Lawful f.machine) where
           frame_cleared s (written v slots) w (decide_on f.machine s slots).scratch ∙ take_front slots v.first v.many (frame_size s) (update_words v) h.within room h.few in
           let at : stage_of (moved s v.pc v.depth 0) (cleared s (decide_on f.machine s slots).scratch (written v slots)) ≡ record { pc = v.pc; depth = v.depth; frame = written v (frame s slots) } =
           ap (λ (x : List ℕ). record { pc = v.pc; depth = v.depth; frame = x }) there in
-          let leads : next f (some (stage_of s slots)) ≡ some (record { pc = v.pc; depth = v.depth; frame = written v (frame s slots) }) = rw (sym (ap (λ (d : Decided). d.decision) staged) ∙ e) in
-          let shifted : stage_from f (record { pc = v.pc; depth = v.depth; frame = written v (frame s slots) }) n ≡ some u = sym (stage_shift (stage_of s slots) t leads n) ∙ q in
+          let leads : next f (Some (stage_of s slots)) ≡ Some (record { pc = v.pc; depth = v.depth; frame = written v (frame s slots) }) = rw (sym (ap (λ (d : Decided). d.decision) staged) ∙ e) in
+          let shifted : stage_from f (record { pc = v.pc; depth = v.depth; frame = written v (frame s slots) }) n ≡ Some u = sym (stage_shift (stage_of s slots) t leads n) ∙ q in
           let steps : suc k + n ≡ k + suc n = omega arith in
           run_ordinary f.machine n k s slots v e
           ∙ ih (suc k) (moved s v.pc v.depth 0) (cleared s (decide_on f.machine s slots).scratch (written v slots)) u (record { stacked = m.stacked; localed = m.localed; typed = m.typed })
           (rw n₂ (still_framed f.machine.runs s (length slots) v h 0)) (n₂ ∙ long) (rw at shifted)
           ∙ rw (at, beyond_cleared s (written v slots) w (decide_on f.machine s slots).scratch, drop_front slots v.first v.many (frame_size s) (update_words v) h.within room h.few, zeroed_twice, same, ← scratch_shift (stage_of s slots) t leads n, steps)
-      go (Decision.Return v) e = absurd (ends_here (rw (sym (ap (λ (d : Decided). d.decision) staged) ∙ e)))
-      go Decision.Throw e = absurd (ends_here (rw (sym (ap (λ (d : Decided). d.decision) staged) ∙ e)))
-      go (Decision.Refused m) e = absurd (ends_here (rw (sym (ap (λ (d : Decided). d.decision) staged) ∙ e)))
+      go (Err (Return v)) e = absurd (ends_here (rw (sym (ap (λ (d : Decided). d.decision) staged) ∙ e)))
+      go (Err Throw) e = absurd (ends_here (rw (sym (ap (λ (d : Decided). d.decision) staged) ∙ e)))
+      go (Err (Refused m)) e = absurd (ends_here (rw (sym (ap (λ (d : Decided). d.decision) staged) ∙ e)))
 
   runs_to : (n : ℕ) → RunsTo n
   unfolding RunsTo run_from stage_from scratch_from

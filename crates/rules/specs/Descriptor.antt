@@ -4,6 +4,7 @@ use Rattle.std.specs.Prelude.{ℕ, zero, suc, ◌+◌, ◌/◌, ◌%◌, ◌≤�
 use Rattle.values.specs.Kinds.{Kind, int, long, float, double, reference, places_of}
 use Rattle.rules.specs.Check.{Check, ◌else◌, ◌>>◌, ◌≤ⁿ◌, ◌=ⁿ◌}
 use Rattle.rules.specs.Fetch.{u8}
+use Rattle.rules.specs.declared.refusals.Refusal.{Refusal}
 
 -- ---- the characters of a descriptor, in ASCII (JVMS, table 4.3-A)
 
@@ -192,7 +193,7 @@ return_type d = return_letter (u8 d (parameters_end d + 1))
 -- is it a method descriptor? 31
 unfoldable pub descriptor_check : List ℕ → Check (Unit {0})
 descriptor_check d = do
-  u8 d 0 =ⁿ opening else 31
-  places_of (parameter_kinds d) ≤ⁿ 255 else 31
-  u8 d (parameters_end d) =ⁿ closing else 31
-  return_end d (parameters_end d + 1) =ⁿ length d else 31
+  u8 d 0 =ⁿ opening else Refusal.Descriptor
+  places_of (parameter_kinds d) ≤ⁿ 255 else Refusal.Descriptor
+  u8 d (parameters_end d) =ⁿ closing else Refusal.Descriptor
+  return_end d (parameters_end d + 1) =ⁿ length d else Refusal.Descriptor

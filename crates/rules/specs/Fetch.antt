@@ -1,10 +1,10 @@
 -- The instruction at an offset of the code: questions 4 and 5 (RULES, 'Questions and refusals'), for every format, WIDE and both switches. Assumes nothing.
-use Rattle.std.specs.Prelude.{ℕ, zero, suc, ◌+◌, ◌-◌, ◌*◌, ◌/◌, Bool, true, ◌&&◌, ◌||◌, cond, List, [], ◌∷◌, ℤ, pos, ◌+ℤ◌, ◌-ℤ◌, nat_abs, length, get_or}
-use Rattle.std.proofs.Math.Option.{Option, none, some}
+use Rattle.std.specs.Prelude.{ℕ, zero, suc, ◌+◌, ◌-◌, ◌*◌, ◌/◌, Bool, true, ◌&&◌, ◌||◌, cond, List, [], ◌∷◌, ℤ, pos, ◌+ℤ◌, ◌-ℤ◌, nat_abs, length, get_or, Ok, Err, Some, None, Option}
 use Rattle.values.specs.Integers.{signed, ◌<ᶻ◌, ◌≤ᶻ◌}
-use Rattle.rules.specs.Check.{Check, passed, refused, ◌else◌, ◌>>=◌, ◌>>◌, ◌≤ⁿ◌, ◌<ⁿ◌, ◌=ⁿ◌}
+use Rattle.rules.specs.Check.{Check, ◌else◌, ◌>>=◌, ◌>>◌, ◌≤ⁿ◌, ◌<ⁿ◌, ◌=ⁿ◌}
 use Rattle.rules.specs.Forms.{Row, Rule, Operand, Format, alone, implied, byte, short, index, index2, index_const, branch, branch4, table, pairs, widened, length_of}
 use Rattle.rules.specs.Instructions.{row_of}
+use Rattle.rules.specs.declared.refusals.Refusal.{Refusal}
 
 -- ---- the bytes of the code, big-endian; past its end they read as 0, and question 5 comes before any use of that
 
@@ -41,8 +41,8 @@ abbrev pub instruction : Row → ℕ → Operand → Instruction
 instruction r n o = record { opcode = r.opcode; rule = r.rule; size = n; operand = o }
 
 abbrev pub core_row : Option Row → Check Row
-core_row none = refused 4
-core_row (some r) = passed r
+core_row None = Err Refusal.Opcode
+core_row (Some r) = Ok r
 
 -- 4. Is the opcode core?
 abbrev pub core : ℕ → Check Row
@@ -51,8 +51,8 @@ core n = core_row (row_of n)
 -- 5. Are its operand bytes in the code? The instruction is n bytes long
 abbrev pub sized : List ℕ → ℕ → Row → ℕ → Operand → Check Instruction
 sized code pc r n o = do
-  pc + n ≤ⁿ length code else 5
-  passed (instruction r n o)
+  pc + n ≤ⁿ length code else Refusal.OperandBytes
+  Ok (instruction r n o)
 
 -- ---- WIDE
 
@@ -66,8 +66,8 @@ wide_opcode code pc = u8 code (pc + 1)
 -- second byte there? 5. Allowed? 4. The rest there? 5
 unfoldable pub wide_check : List ℕ → ℕ → Check Instruction
 wide_check code pc = do
-  pc + 1 <ⁿ length code else 5
-  widens (wide_opcode code pc) else 4
+  pc + 1 <ⁿ length code else Refusal.OperandBytes
+  widens (wide_opcode code pc) else Refusal.Opcode
   r ← core (wide_opcode code pc)
   cond (wide_opcode code pc =ⁿ 132)
       (sized code pc r 6 (operands (u16 code (pc + 2)) (s16 code (pc + 4)) []))
@@ -116,10 +116,10 @@ table_operand code pc = operands 0 (s32 code (aligned pc)) (offsets_from code (a
 -- fixed fields in the code? 5. low ≤ high? 6. Table in the code? 5
 unfoldable pub table_check : List ℕ → ℕ → Row → Check Instruction
 table_check code pc r = do
-  aligned pc + 12 ≤ⁿ length code else 5
-  low_key code pc ≤ᶻ high_key code pc else 6
-  table_end code pc ≤ⁿ length code else 5
-  passed (instruction r (table_end code pc - pc) (table_operand code pc))
+  aligned pc + 12 ≤ⁿ length code else Refusal.OperandBytes
+  low_key code pc ≤ᶻ high_key code pc else Refusal.SwitchKeys
+  table_end code pc ≤ⁿ length code else Refusal.OperandBytes
+  Ok (instruction r (table_end code pc - pc) (table_operand code pc))
 
 -- LOOKUPSWITCH: default, npairs, then npairs pairs of a key and an offset
 abbrev pub pair_count : List ℕ → ℕ → ℤ
@@ -137,11 +137,11 @@ pairs_operand code pc = operands 0 (s32 code (aligned pc)) (key_pairs code pc)
 -- fixed fields in the code? 5. Pair count not negative? 6. Table in the code? 5. Keys strictly rising? 6
 unfoldable pub lookup_check : List ℕ → ℕ → Row → Check Instruction
 lookup_check code pc r = do
-  aligned pc + 8 ≤ⁿ length code else 5
-  pos 0 ≤ᶻ pair_count code pc else 6
-  pairs_end code pc ≤ⁿ length code else 5
-  rising (key_pairs code pc) else 6
-  passed (instruction r (pairs_end code pc - pc) (pairs_operand code pc))
+  aligned pc + 8 ≤ⁿ length code else Refusal.OperandBytes
+  pos 0 ≤ᶻ pair_count code pc else Refusal.SwitchKeys
+  pairs_end code pc ≤ⁿ length code else Refusal.OperandBytes
+  rising (key_pairs code pc) else Refusal.SwitchKeys
+  Ok (instruction r (pairs_end code pc - pc) (pairs_operand code pc))
 
 -- ---- every format
 

@@ -1,8 +1,8 @@
 -- The plain walk of a sheet: from the sheet and the lengths of the lent slices, and nothing else (RULES, 'The plain walk'). What the sheet gives is said
 -- place by place here, apart from how a load fills it in, so that demand 3 measures the load too. Assumes nothing.
-use Rattle.std.specs.Prelude.{ℕ, zero, suc, ◌+◌, ◌-◌, ◌*◌, cond, List, [], ◌∷◌, take, drop}
-use Rattle.rules.specs.declared.Reading.{Reading}
-use Rattle.rules.specs.Check.{Check, passed, refused, ◌≤ⁿ◌, ◌<ⁿ◌, ◌=ⁿ◌}
+use Rattle.std.specs.Prelude.{ℕ, zero, suc, ◌+◌, ◌-◌, ◌*◌, cond, List, [], ◌∷◌, take, drop, Ok, Err}
+use Rattle.rules.specs.declared.sheets.Reading.{Reading}
+use Rattle.rules.specs.Check.{Check, ◌≤ⁿ◌, ◌<ⁿ◌, ◌=ⁿ◌}
 use Rattle.rules.specs.Fetch.{u32}
 use Rattle.rules.specs.Questions.{Method, method}
 use Rattle.rules.specs.Step.{Decider, machine_by}
@@ -73,8 +73,8 @@ plain_walk_by rules sheet n p =
 
 -- a sheet that is refused has no walk, so that the second clause is never met
 abbrev pub reading_of : Check Reading → Reading
-reading_of (passed p) = p
-reading_of (refused n) = unread
+reading_of (Ok p) = p
+reading_of (Err n) = unread
 
 abbrev pub plain_walk_of : (Method → Decider) → List ℕ → Lengths → PlainWalk
 plain_walk_of rules sheet n = plain_walk_by rules sheet n (reading_of (sheet_check sheet))

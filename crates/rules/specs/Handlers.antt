@@ -1,6 +1,5 @@
 -- The handlers of a method (JVMS 2.10, 4.7.3) as a lent part of bytes, and which of them takes an ArithmeticException that is thrown at an offset. Assumes nothing.
-use Rattle.std.specs.Prelude.{ℕ, zero, suc, ◌+◌, ◌/◌, Bool, ◌&&◌, ◌||◌, cond, List, length, get_or}
-use Rattle.std.proofs.Math.Option.{Option, none, some}
+use Rattle.std.specs.Prelude.{ℕ, zero, suc, ◌+◌, ◌/◌, Bool, ◌&&◌, ◌||◌, cond, List, length, get_or, Some, None, Option}
 use Rattle.rules.specs.Check.{◌≤ⁿ◌, ◌<ⁿ◌, ◌=ⁿ◌}
 use Rattle.rules.specs.Fetch.{u16}
 
@@ -45,8 +44,8 @@ catches kinds words part at pc = covers part at pc && takes kinds words (catch_t
 
 -- the handler of the first of n entries from an offset on that catches what is thrown at pc
 unfoldable pub handler_from : ℕ → List ℕ → List ℕ → List ℕ → ℕ → ℕ → Option ℕ
-handler_from zero kinds words part at pc = none
-handler_from (suc n) kinds words part at pc = cond (catches kinds words part at pc) (some (handler_pc part at)) (handler_from n kinds words part (at + entry_size) pc)
+handler_from zero kinds words part at pc = None
+handler_from (suc n) kinds words part at pc = cond (catches kinds words part at pc) (Some (handler_pc part at)) (handler_from n kinds words part (at + entry_size) pc)
 
 -- of all whole entries; a rest that is shorter counts for nothing
 abbrev pub handler_at : List ℕ → List ℕ → List ℕ → ℕ → Option ℕ

@@ -1,14 +1,14 @@
 -- Forward and back: a step with history, its undo record in the log, and that record restored. Assumes nothing.
-use Rattle.std.specs.Prelude.{ℕ, ◌+◌, ◌-◌, ◌*◌, ◌||◌, List, [], ◌∷◌, length, get_or, drop}
+use Rattle.std.specs.Prelude.{ℕ, ◌+◌, ◌-◌, ◌*◌, ◌||◌, List, [], ◌∷◌, length, get_or, drop, Ok, Err}
 use Rattle.std.proofs.Math.Seq.{paste}
-use Rattle.rules.specs.declared.State.{State}
-use Rattle.rules.specs.declared.Update.{Update}
-use Rattle.rules.specs.declared.Decision.{Decision}
-use Rattle.rules.specs.declared.Pressed.{Pressed}
-use Rattle.rules.specs.declared.Pressed.TheVariants.{Granted, Return, Throw, Refused}
-use Rattle.rules.specs.Check.{Check, passed, refused, ◌else◌, ◌>>◌, ◌≤ⁿ◌, ◌<ⁿ◌, ◌=ⁿ◌}
+use Rattle.rules.specs.declared.states.State.{State}
+use Rattle.rules.specs.declared.updates.Update.{Update}
+use Rattle.rules.specs.Check.{Check, ◌else◌, ◌>>◌, ◌≤ⁿ◌, ◌<ⁿ◌, ◌=ⁿ◌}
 use Rattle.rules.specs.Questions.{Method, frame_size, frame_check}
 use Rattle.rules.specs.Step.{Machine, decide_on, moved, written, cleared}
+use Rattle.rules.specs.declared.refusals.Refusal.{Refusal}
+use Rattle.rules.specs.declared.halts.Halt.TheVariants.{Refused}
+use Rattle.rules.specs.Decisions.{Decision, Pressed}
 
 -- what a press leaves, and its answer
 pub record AfterPress : Type 0 where
@@ -43,31 +43,27 @@ abbrev pub granted : State → List ℕ → List ℕ → ℕ → Update → Afte
 granted s slots log n u =
     record {
       state = moved s u.pc u.depth (s.count + 1);
-      answer = Granted;
+      answer = Ok tt;
       slots = cleared s n (written u slots);
       log = paste log (entry_at s.count) (undo_record s.pc s.depth u.first u.many slots) 10;
     }
 
 -- 11. With history: are ten words of log left after 10 times count? 12
 abbrev pub log_check : ℕ → ℕ → Check (Unit {0})
-log_check count room = entry_at count + 10 ≤ⁿ room else 12
+log_check count room = entry_at count + 10 ≤ⁿ room else Refusal.LogFull
 
 abbrev pub granted_by : State → List ℕ → List ℕ → ℕ → Update → Check (Unit {0}) → AfterPress
-granted_by s slots log n u (passed t) = granted s slots log n u
-granted_by s slots log n u (refused k) = kept s slots log n (Refused k)
+granted_by s slots log n u (Ok t) = granted s slots log n u
+granted_by s slots log n u (Err k) = kept s slots log n (Err (Refused k))
 
 -- a decision as a press
 abbrev pub pressed_by : Decision → Pressed
-pressed_by (Decision.Ordinary u) = Granted
-pressed_by (Decision.Return v) = Return v
-pressed_by Decision.Throw = Throw
-pressed_by (Decision.Refused n) = Refused n
+pressed_by (Ok u) = Ok tt
+pressed_by (Err h) = Err h
 
 abbrev pub forward_by : State → List ℕ → List ℕ → ℕ → Decision → AfterPress
-forward_by s slots log n (Decision.Ordinary u) = granted_by s slots log n u (log_check s.count (length log))
-forward_by s slots log n (Decision.Return v) = kept s slots log n (Return v)
-forward_by s slots log n Decision.Throw = kept s slots log n Throw
-forward_by s slots log n (Decision.Refused k) = kept s slots log n (Refused k)
+forward_by s slots log n (Ok u) = granted_by s slots log n u (log_check s.count (length log))
+forward_by s slots log n (Err h) = kept s slots log n (Err h)
 
 unfoldable pub forward_of : Machine → State → List ℕ → List ℕ → AfterPress
 forward_of x s slots log = forward_by s slots log (decide_on x s slots).scratch (decide_on x s slots).decision
@@ -78,17 +74,17 @@ forward_of x s slots log = forward_by s slots log (decide_on x s slots).scratch 
 -- place is not looked at
 unfoldable pub entry_check : List ℕ → State → List ℕ → ℕ → Check (Unit {0})
 entry_check code s log k = do
-  get_or log k 0 <ⁿ length code else 14
-  get_or log (k + 1) 0 ≤ⁿ s.max_stack else 14
-  get_or log (k + 3) 0 ≤ⁿ 6 else 14
-  (get_or log (k + 3) 0 =ⁿ 0) || (get_or log (k + 2) 0 + get_or log (k + 3) 0 ≤ⁿ frame_size s) else 14
+  get_or log k 0 <ⁿ length code else Refusal.LogEntry
+  get_or log (k + 1) 0 ≤ⁿ s.max_stack else Refusal.LogEntry
+  get_or log (k + 3) 0 ≤ⁿ 6 else Refusal.LogEntry
+  (get_or log (k + 3) 0 =ⁿ 0) || (get_or log (k + 2) 0 + get_or log (k + 3) 0 ≤ⁿ frame_size s) else Refusal.LogEntry
 
 -- questions 1 to 3; is count above 0? 13; does the log reach 10 times count? 14; the entry
 unfoldable pub back_check : Method → State → List ℕ → List ℕ → Check (Unit {0})
 back_check l s slots log = do
   frame_check l s (length slots)
-  0 <ⁿ s.count else 13
-  entry_at s.count ≤ⁿ length log else 14
+  0 <ⁿ s.count else Refusal.NothingToTakeBack
+  entry_at s.count ≤ⁿ length log else Refusal.LogEntry
   entry_check l.code s log (entry_at (s.count - 1))
 
 -- the old words written, pc and depth restored, count lowered; no log word changed
@@ -96,14 +92,14 @@ abbrev pub restored : State → List ℕ → List ℕ → ℕ → AfterPress
 restored s slots log k =
     record {
       state = moved s (get_or log k 0) (get_or log (k + 1) 0) (s.count - 1);
-      answer = Granted;
+      answer = Ok tt;
       slots = paste slots (get_or log (k + 2) 0) (drop (k + 4) log) (get_or log (k + 3) 0);
       log = log;
     }
 
 abbrev pub back_by : State → List ℕ → List ℕ → Check (Unit {0}) → AfterPress
-back_by s slots log (passed t) = restored s slots log (entry_at (s.count - 1))
-back_by s slots log (refused n) = kept s slots log 0 (Refused n)
+back_by s slots log (Ok t) = restored s slots log (entry_at (s.count - 1))
+back_by s slots log (Err n) = kept s slots log 0 (Err (Refused n))
 
 unfoldable pub back_of : Method → State → List ℕ → List ℕ → AfterPress
 back_of l s slots log = back_by s slots log (back_check l s slots log)

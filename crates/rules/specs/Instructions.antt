@@ -1,8 +1,7 @@
 -- The 164 instructions, one line each, in the groups of JVMS chapter 7: opcode, mnemonic, what follows the opcode, and the operand stack before and after (JVMS 6.5).
 -- `int · int ⟶ int is f` pops value1 and value2 and pushes f of what they mean; `on-bits` says f of their bits. `v2 v1 ⇒ v1 v2 v1` moves words,
 -- v1 being the top one. Results are cut to their kind's width by `bits` of Words; a sum or product here is the true one. Assumes nothing.
-use Rattle.std.specs.Prelude.{ℕ, ◌/◌, ◌%◌, ◌^◌, not, cond, List, [], ◌∷◌, pos, neg_ℤ, ◌+ℤ◌, ◌-ℤ◌, ◌*ℤ◌, eqb}
-use Rattle.std.proofs.Math.Option.{Option, none, some}
+use Rattle.std.specs.Prelude.{ℕ, ◌/◌, ◌%◌, ◌^◌, not, cond, List, [], ◌∷◌, pos, neg_ℤ, ◌+ℤ◌, ◌-ℤ◌, ◌*ℤ◌, eqb, Some, None, Option}
 use Rattle.std.specs.Int.Signed.{quot_z, rem_z, shr_z}
 use Rattle.std.specs.Float.Ieee as Ieee
 use Rattle.std.specs.Float.{binary32, binary64}
@@ -11,9 +10,7 @@ use Rattle.values.specs.declared.Value.{Value}
 use Rattle.values.specs.Kinds.{int, long, float, double, reference}
 use Rattle.values.specs.Integers.{low, to_byte, to_char, to_short, ◌=ᶻ◌, ◌<ᶻ◌, ◌≤ᶻ◌, −1, order, bitwise, and, or, xor, flipped}
 use Rattle.values.specs.Floats.{order_or, nearest}
-use Rattle.rules.specs.Forms.{Row, op, v1, v2, v3, v4, ◌⟶◌on_bits◌, ◌·◌⟶◌on_bits◌, ◌⟶◌is◌, ◌·◌⟶◌is◌, ◌÷◌is◌, ◌⇒◌, ◌jumps_if◌, ◌·◌jumps_if◌}
-use Rattle.rules.specs.Forms.{constant, immediate, pool_constant, load, store, increment, jumps, switches, gives_back, gives_back_nothing, does_nothing}
-use Rattle.rules.specs.Forms.{alone, implied, byte, short, index, index2, index_const, branch, branch4, table, pairs, widened}
+use Rattle.rules.specs.Forms.{Row, op, v1, v2, v3, v4, ◌⟶◌on_bits◌, ◌·◌⟶◌on_bits◌, ◌⟶◌is◌, ◌·◌⟶◌is◌, ◌÷◌is◌, ◌⇒◌, ◌jumps_if◌, ◌·◌jumps_if◌, constant, immediate, pool_constant, load, store, increment, jumps, switches, gives_back, gives_back_nothing, does_nothing, alone, implied, byte, short, index, index2, index_const, branch, branch4, table, pairs, widened}
 
 unfoldable pub instructions : List Row
 instructions =
@@ -193,8 +190,8 @@ instructions =
     []
 
 unfoldable pub row_in : List Row → ℕ → Option Row
-row_in [] n = none
-row_in (r ∷ rs) n = cond (eqb n r.opcode) (some r) (row_in rs n)
+row_in [] n = None
+row_in (r ∷ rs) n = cond (eqb n r.opcode) (Some r) (row_in rs n)
 
 -- the row of an opcode, if it is one of the core opcodes
 unfoldable pub row_of : ℕ → Option Row

@@ -1,3 +1,5 @@
+pub mod Refusals
+pub mod Decisions
 pub mod Check
 pub mod Forms
 pub mod Instructions

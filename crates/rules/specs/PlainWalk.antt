@@ -1,13 +1,12 @@
 -- Stages and the plain walk (RULES, 'The plain walk'), of any machine. Assumes nothing.
-use Rattle.std.specs.Prelude.{ℕ, zero, suc, ◌+◌, ◌-◌, max, cond, List, [], ◌∷◌}
-use Rattle.std.proofs.Math.Option.{Option, none, some}
-use Rattle.rules.specs.declared.State.{State}
-use Rattle.rules.specs.declared.Decision.{Decision}
-use Rattle.rules.specs.declared.Pressed.{Pressed}
-use Rattle.rules.specs.declared.Pressed.TheVariants.{Granted, Return, Throw, Refused}
-use Rattle.rules.specs.Check.{Check, passed, refused, ◌<ⁿ◌}
+use Rattle.std.specs.Prelude.{ℕ, zero, suc, ◌+◌, ◌-◌, max, cond, List, [], ◌∷◌, Ok, Err, Some, None, Option}
+use Rattle.rules.specs.declared.states.State.{State}
+use Rattle.rules.specs.Check.{Check, ◌<ⁿ◌}
 use Rattle.rules.specs.Step.{frame, Decided, Machine, moved, written}
 use Rattle.rules.specs.History.{log_check}
+use Rattle.rules.specs.declared.refusals.Refusal.{Refusal}
+use Rattle.rules.specs.declared.halts.Halt.TheVariants.{Refused}
+use Rattle.rules.specs.Decisions.{Decision, Pressed}
 
 -- ---- stages
 
@@ -35,18 +34,16 @@ decision_at f t = f.machine.decides f.slots (moved f.state t.pc t.depth 0) t.fra
 
 -- after an ordinary step; where the rules give a refusal or an outcome, no stage follows
 abbrev pub follow_by : Stage → Decision → Option Stage
-follow_by t (Decision.Ordinary u) = some (record { pc = u.pc; depth = u.depth; frame = written u t.frame })
-follow_by t (Decision.Return v) = none
-follow_by t Decision.Throw = none
-follow_by t (Decision.Refused n) = none
+follow_by t (Ok u) = Some (record { pc = u.pc; depth = u.depth; frame = written u t.frame })
+follow_by t (Err h) = None
 
 abbrev pub next : PlainWalk → Option Stage → Option Stage
-next f none = none
-next f (some t) = follow_by t (decision_at f t).decision
+next f None = None
+next f (Some t) = follow_by t (decision_at f t).decision
 
 -- n steps after a stage
 unfoldable pub stage_from : PlainWalk → Stage → ℕ → Option Stage
-stage_from f t zero = some t
+stage_from f t zero = Some t
 stage_from f t (suc n) = next f (stage_from f t n)
 
 abbrev pub stage : PlainWalk → ℕ → Option Stage
@@ -58,24 +55,22 @@ pub data Press : Type 0 where
   forward back : Press
 
 abbrev pub check_answer : Check (Unit {0}) → Pressed
-check_answer (passed t) = Granted
-check_answer (refused n) = Refused n
+check_answer (Ok t) = (Ok tt)
+check_answer (Err n) = Err (Refused n)
 
 -- forward, by what is decided at stage net: question 11 is asked with net as the count
 abbrev pub forward_answer : ℕ → ℕ → Decision → Pressed
-forward_answer room net (Decision.Ordinary u) = check_answer (log_check net room)
-forward_answer room net (Decision.Return v) = Return v
-forward_answer room net Decision.Throw = Throw
-forward_answer room net (Decision.Refused n) = Refused n
+forward_answer room net (Ok u) = check_answer (log_check net room)
+forward_answer room net (Err h) = Err h
 
 -- a plain walk's net always has its stage, so that the first clause is never met
 abbrev pub decision_of : PlainWalk → Option Stage → Decision
-decision_of f none = Decision.Refused 0
-decision_of f (some t) = (decision_at f t).decision
+decision_of f None = Err (Refused Refusal.Lengths)
+decision_of f (Some t) = (decision_at f t).decision
 
 -- back: granted where net is above 0, else 13
 abbrev pub back_answer : ℕ → Pressed
-back_answer net = cond (0 <ⁿ net) Granted (Refused 13)
+back_answer net = cond (0 <ⁿ net) (Ok tt) (Err (Refused Refusal.NothingToTakeBack))
 
 unfoldable pub plain_answer : PlainWalk → Press → ℕ → Pressed
 plain_answer f forward net = forward_answer f.log net (decision_of f (stage f net))
@@ -83,14 +78,10 @@ plain_answer f back net = back_answer net
 
 -- net rises by one with a granted forward, and falls by one with a granted back
 abbrev pub net_after : Press → ℕ → Pressed → ℕ
-net_after forward net Granted = net + 1
-net_after forward net (Return v) = net
-net_after forward net Throw = net
-net_after forward net (Refused n) = net
-net_after back net Granted = net - 1
-net_after back net (Return v) = net
-net_after back net Throw = net
-net_after back net (Refused n) = net
+net_after forward net (Ok t) = net + 1
+net_after forward net (Err h) = net
+net_after back net (Ok t) = net - 1
+net_after back net (Err h) = net
 
 -- the answers to a list of presses, and net after it
 unfoldable pub plain_answers : PlainWalk → List Press → ℕ → List Pressed
@@ -106,8 +97,8 @@ plain_net f (p ∷ ps) net = plain_net f ps (net_after p net (plain_answer f p n
 -- ---- scratch: how many slots after the frame were taken, and so are 0
 
 abbrev pub scratch_at : PlainWalk → Option Stage → ℕ
-scratch_at f none = 0
-scratch_at f (some t) = (decision_at f t).scratch
+scratch_at f None = 0
+scratch_at f (Some t) = (decision_at f t).scratch
 
 -- by the n steps after a stage
 unfoldable pub scratch_from : PlainWalk → Stage → ℕ → ℕ

@@ -1,10 +1,8 @@
 -- A list of presses as bytes, its answers written as words, and demand 3 of what it leaves, whatever sheet was loaded. Assumes nothing.
-use Rattle.std.specs.Prelude.{ℕ, zero, suc, ◌*◌, ◌<◌, ◌≤◌, ◌≡◌, List, [], ◌∷◌, ◌++◌, length}
+use Rattle.std.specs.Prelude.{ℕ, zero, suc, ◌*◌, ◌<◌, ◌≤◌, ◌≡◌, List, [], ◌∷◌, ◌++◌, length, Ok, Err}
 use Rattle.std.proofs.Math.Seq.{paste}
-use Rattle.rules.specs.declared.State.{State}
-use Rattle.rules.specs.declared.Pressed.{Pressed}
-use Rattle.rules.specs.declared.Load.TheVariants.{Accepted}
-use Rattle.rules.specs.Check.{Check, passed, refused, ◌else◌, ◌≤ⁿ◌}
+use Rattle.rules.specs.declared.states.State.{State}
+use Rattle.rules.specs.Check.{Check, ◌else◌, ◌≤ⁿ◌}
 use Rattle.rules.specs.Fetch.{u8}
 use Rattle.rules.specs.Questions.{Method, method}
 use Rattle.rules.specs.Step.{Decider, Machine}
@@ -13,6 +11,9 @@ use Rattle.rules.specs.PlainWalk.{PlainWalk, Press, forward, back, plain_answers
 use Rattle.rules.specs.Walk.{Walked, walk_of, Demand3}
 use Rattle.rules.specs.FromSheet.{plain_walk_of}
 use Rattle.rules.specs.Answers.{pressed_answer}
+use Rattle.rules.specs.declared.refusals.Refusal.{Refusal}
+use Rattle.rules.specs.Decisions.{Pressed}
+use Rattle.rules.specs.Refusals.{number_of}
 
 -- ---- bytes and words
 
@@ -50,11 +51,11 @@ replayed answers n w =
 
 -- are there three answer words for each press? 1
 abbrev pub answers_check : ℕ → ℕ → Check (Unit {0})
-answers_check n room = 3 * n ≤ⁿ room else 1
+answers_check n room = 3 * n ≤ⁿ room else Refusal.Lengths
 
 abbrev pub replay_by : Machine → List ℕ → State → List ℕ → List ℕ → List ℕ → Check (Unit {0}) → Replayed
-replay_by x bytes s slots log answers (passed t) = replayed answers (length bytes) (walk_of x (presses_of_bytes bytes) s slots log)
-replay_by x bytes s slots log answers (refused n) = record { number = n; state = s; slots = slots; log = log; answers = answers }
+replay_by x bytes s slots log answers (Ok t) = replayed answers (length bytes) (walk_of x (presses_of_bytes bytes) s slots log)
+replay_by x bytes s slots log answers (Err r) = record { number = number_of r; state = s; slots = slots; log = log; answers = answers }
 
 -- on any state and any memory
 unfoldable pub replay_of : Machine → List ℕ → State → List ℕ → List ℕ → List ℕ → Replayed
@@ -72,7 +73,7 @@ pub record LeftBy (sheet : List ℕ) (l : Method) (s : State) (slots : List ℕ)
   pub slots₀ : List ℕ
   pub kinds₀ : List ℕ
   pub words₀ : List ℕ
-  pub accepted : (load_of sheet slots₀ kinds₀ words₀).loaded.answer ≡ Accepted
+  pub accepted : (load_of sheet slots₀ kinds₀ words₀).loaded.answer ≡ Ok tt
   pub same_method : l ≡ loaded_method sheet (load_of sheet slots₀ kinds₀ words₀)
   pub same_state : s ≡ (load_of sheet slots₀ kinds₀ words₀).loaded.state
   pub same_slots : slots ≡ (load_of sheet slots₀ kinds₀ words₀).slots

@@ -1,9 +1,10 @@
 -- Questions 1 to 3 and 6 to 9 (RULES, 'Questions and refusals') in their order, each with the number that a no gives. 4 and 5 are in Fetch, 10 in Step. Assumes nothing.
 use Rattle.std.specs.Prelude.{ℕ, ◌+◌, ◌-◌, Bool, true, false, ◌&&◌, ◌||◌, List, [], ◌∷◌, length, get_or}
 use Rattle.values.specs.Kinds.{Kind, int, long, float, double, reference, any, places, places_of}
-use Rattle.rules.specs.declared.State.{State}
+use Rattle.rules.specs.declared.states.State.{State}
 use Rattle.rules.specs.Check.{Check, ◌else◌, ◌>>◌, ◌≤ⁿ◌, ◌<ⁿ◌, ◌=ⁿ◌}
 use Rattle.rules.specs.Fetch.{Instruction}
+use Rattle.rules.specs.declared.refusals.Refusal.{Refusal}
 
 -- a method as it is lent, and never written: its code, the constant pool as kinds and words, and its handlers (Handlers)
 pub record Method : Type 0 where
@@ -24,15 +25,15 @@ frame_size s = s.max_locals + s.max_stack
 unfoldable pub frame_check : Method → State → ℕ → Check (Unit {0})
 frame_check l s n = do
   -- 1. Are kinds and words equally long, at most 65,536, and slots at least max_locals + max_stack?
-  length l.kinds =ⁿ length l.words else 1
-  length l.kinds ≤ⁿ 65536 else 1
-  frame_size s ≤ⁿ n else 1
+  length l.kinds =ⁿ length l.words else Refusal.Lengths
+  length l.kinds ≤ⁿ 65536 else Refusal.Lengths
+  frame_size s ≤ⁿ n else Refusal.Lengths
   -- 2. Is the code 1 to 65,535 bytes and pc inside?
-  1 ≤ⁿ length l.code else 2
-  length l.code ≤ⁿ 65535 else 2
-  s.pc <ⁿ length l.code else 2
+  1 ≤ⁿ length l.code else Refusal.Code
+  length l.code ≤ⁿ 65535 else Refusal.Code
+  s.pc <ⁿ length l.code else Refusal.Code
   -- 3. Is depth at most max_stack?
-  s.depth ≤ⁿ s.max_stack else 3
+  s.depth ≤ⁿ s.max_stack else Refusal.Depth
 
 -- ---- questions 6 to 9
 
@@ -68,15 +69,15 @@ constant_there tags x (k ∷ ks) = one_stands_at tags x (k ∷ ks)
 
 -- question 9
 abbrev pub constant_check : List ℕ → ℕ → List Kind → Check (Unit {0})
-constant_check tags x ks = constant_there tags x ks else 10
+constant_check tags x ks = constant_there tags x ks else Refusal.Constant
 
 unfoldable pub needs_check : Method → State → Instruction → Check (Unit {0})
 needs_check l s i = do
   -- 6. Is what it pops there?
-  popped i ≤ⁿ s.depth else 7
+  popped i ≤ⁿ s.depth else Refusal.StackUnderflow
   -- 7. Does what it pushes fit max_stack?
-  s.depth - popped i + pushed i ≤ⁿ s.max_stack else 8
+  s.depth - popped i + pushed i ≤ⁿ s.max_stack else Refusal.StackOverflow
   -- 8. Are its locals, both for a long, below max_locals?
-  locals_below s.max_locals i.operand.index i.rule.locals else 9
+  locals_below s.max_locals i.operand.index i.rule.locals else Refusal.Local
   -- 9. Has the pool the right kind at the index, and a following entry for a long?
   constant_check l.kinds i.operand.index i.rule.constants

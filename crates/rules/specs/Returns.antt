@@ -1,12 +1,13 @@
 -- What a method gives back by its return type, with question 32 (JVMS 2.11.8, and 6.5 of IRETURN to RETURN). Assumes nothing.
-use Rattle.std.specs.Prelude.{ℕ, ◌%◌, Bool, not, ◌||◌, cond}
+use Rattle.std.specs.Prelude.{ℕ, ◌%◌, Bool, not, ◌||◌, cond, Ok}
 use Rattle.values.specs.declared.Value.{Value}
 use Rattle.values.specs.declared.Value.TheVariants.{Void, Int, Float, Reference, Long, Double}
 use Rattle.values.specs.Kinds.{int}
 use Rattle.values.specs.Integers.{to_byte, to_char, to_short}
 use Rattle.values.specs.Words.{bits, meaning}
-use Rattle.rules.specs.Check.{Check, passed, ◌else◌, ◌>>◌, ◌=ⁿ◌}
+use Rattle.rules.specs.Check.{Check, ◌else◌, ◌>>◌, ◌=ⁿ◌}
 use Rattle.rules.specs.Descriptor.{byte_type, char_type, double_type, float_type, int_type, long_type, class_type, short_type, void_type, boolean_type, is_base}
+use Rattle.rules.specs.declared.refusals.Refusal.{Refusal}
 
 -- the return type of a state: B C D F I J S Z, L for every reference, V; any other number counts as 0
 unfoldable pub is_return_type : ℕ → Bool
@@ -41,5 +42,5 @@ given_back t Void = Void
 -- is the return instruction of the return type's kind, where there is a return type? 32
 unfoldable pub returned : ℕ → Value → Check Value
 returned t v = do
-  not (is_return_type t) || suits t v else 32
-  passed (given_back t v)
+  not (is_return_type t) || suits t v else Refusal.ReturnType
+  Ok (given_back t v)

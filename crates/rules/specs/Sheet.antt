@@ -1,16 +1,16 @@
 -- The sheet (RULES, 'The sheet'): its records, what is asked of each and of the lent memory, and what an accepted load fills and gives. Assumes nothing.
-use Rattle.std.specs.Prelude.{ℕ, zero, suc, ◌+◌, ◌/◌, ◌%◌, ◌-◌, Bool, true, false, not, ◌&&◌, ◌||◌, cond, List, [], ◌∷◌, ◌++◌, length, take, drop, set, replicate}
+use Rattle.std.specs.Prelude.{ℕ, zero, suc, ◌+◌, ◌/◌, ◌%◌, ◌-◌, Bool, true, false, not, ◌&&◌, ◌||◌, cond, List, [], ◌∷◌, ◌++◌, length, take, drop, set, replicate, Ok, Err, Some, None, Option}
 use Rattle.values.specs.Kinds.{places_of}
-use Rattle.rules.specs.declared.State.{State}
-use Rattle.rules.specs.declared.Mark.{Mark}
-use Rattle.rules.specs.declared.Mark.TheVariants.{LM, DS, CD, KI, EX, AR}
-use Rattle.rules.specs.declared.Reading.{Reading}
-use Rattle.rules.specs.declared.Load.TheVariants as Load
-use Rattle.rules.specs.declared.Loaded.{Loaded}
-use Rattle.rules.specs.Check.{Check, passed, refused, ◌else◌, ◌>>=◌, ◌>>◌, ◌≤ⁿ◌, ◌<ⁿ◌, ◌=ⁿ◌}
+use Rattle.rules.specs.declared.states.State.{State}
+use Rattle.rules.specs.declared.sheets.Mark.{Mark}
+use Rattle.rules.specs.declared.sheets.Mark.TheVariants.{LM, DS, CD, KI, EX, AR}
+use Rattle.rules.specs.declared.sheets.Reading.{Reading}
+use Rattle.rules.specs.declared.sheets.Loaded.{Loaded}
+use Rattle.rules.specs.Check.{Check, ◌else◌, ◌>>=◌, ◌>>◌, ◌≤ⁿ◌, ◌<ⁿ◌, ◌=ⁿ◌}
 use Rattle.rules.specs.Fetch.{u8, u16, u32}
 use Rattle.rules.specs.Descriptor.{parameter_kinds, return_type, descriptor_check}
 use Rattle.rules.specs.Handlers.{start_pc, end_pc, handler_pc, catch_type, class_tag}
+use Rattle.rules.specs.declared.refusals.Refusal.{Refusal}
 
 -- ---- a record at an offset of the sheet: a mark of two ASCII bytes, the length of its body in 16 bits, the body
 
@@ -26,15 +26,14 @@ record_end sheet at = body_at at + body_length sheet at
 
 abbrev pub known_mark : ℕ → Check Mark
 known_mark n =
-    cond (n =ⁿ 0x4C4D) (passed LM)
-    (cond (n =ⁿ 0x4453) (passed DS)
-    (cond (n =ⁿ 0x4344) (passed CD)
-    (cond (n =ⁿ 0x4B49) (passed KI)
-    (cond (n =ⁿ 0x4558) (passed EX)
-    (cond (n =ⁿ 0x4152) (passed AR)
-    (refused 22))))))
+    cond (n =ⁿ 0x4C4D) (Ok LM)
+    (cond (n =ⁿ 0x4453) (Ok DS)
+    (cond (n =ⁿ 0x4344) (Ok CD)
+    (cond (n =ⁿ 0x4B49) (Ok KI)
+    (cond (n =ⁿ 0x4558) (Ok EX)
+    (cond (n =ⁿ 0x4152) (Ok AR)
+    (Err Refusal.UnknownMark))))))
 
--- the order: LM, at most one DS, CD, any number of KI, any number of EX, AR. The last record's mark is known by its number, 0 before the first record
 abbrev pub mark_number : Mark → ℕ
 mark_number LM = 1
 mark_number DS = 2
@@ -43,15 +42,25 @@ mark_number KI = 4
 mark_number EX = 5
 mark_number AR = 6
 
--- no constant comes any more: EX and AR stand after CD, after a KI or after an EX
-abbrev pub ends_pool : ℕ → Bool
-ends_pool last = (last =ⁿ mark_number CD) || (last =ⁿ mark_number KI) || (last =ⁿ mark_number EX)
+-- of the last record, if there is one
+abbrev pub last_number : Option Mark → ℕ
+last_number None = 0
+last_number (Some m) = mark_number m
 
-abbrev pub follows : Mark → ℕ → Bool
-follows LM last = last =ⁿ 0
-follows DS last = last =ⁿ mark_number LM
-follows CD last = (last =ⁿ mark_number LM) || (last =ⁿ mark_number DS)
-follows KI last = (last =ⁿ mark_number CD) || (last =ⁿ mark_number KI)
+abbrev pub is_last : Mark → Option Mark → Bool
+is_last m last = last_number last =ⁿ mark_number m
+
+-- the order: LM, at most one DS, CD, any number of KI, any number of EX, AR
+
+-- no constant comes any more: EX and AR stand after CD, after a KI or after an EX
+abbrev pub ends_pool : Option Mark → Bool
+ends_pool last = is_last CD last || is_last KI last || is_last EX last
+
+abbrev pub follows : Mark → Option Mark → Bool
+follows LM last = last_number last =ⁿ 0
+follows DS last = is_last LM last
+follows CD last = is_last LM last || is_last DS last
+follows KI last = is_last CD last || is_last KI last
 follows EX last = ends_pool last
 follows AR last = ends_pool last
 
@@ -114,7 +123,7 @@ argument_count sheet at = body_length sheet at / 4
 abbrev pub unread : Reading
 unread =
     record {
-      last = 0;
+      last = None;
       max_stack = 0;
       max_locals = 0;
       parameter_places = 0;
@@ -135,7 +144,7 @@ by this m new old = cond (mark_number m =ⁿ mark_number this) new old
 unfoldable pub with_record : List ℕ → ℕ → Mark → Reading → Reading
 with_record sheet at m p =
     record {
-      last = mark_number m;
+      last = Some m;
       max_stack = by LM m (limit_stack sheet at) p.max_stack;
       max_locals = by LM m (limit_locals sheet at) p.max_locals;
       parameter_places = by DS m (places_of (parameter_kinds (descriptor_at sheet at))) p.parameter_places;
@@ -173,51 +182,51 @@ is_catch_type sheet p type = (type =ⁿ 0) || class_from (p.handlers - pool_star
 -- below end, start and handler inside the code, end at most its length, a catch type? 33. AR: arguments at most max_locals? 27; as many as the descriptor's parameters
 -- take, if there is one? 31
 unfoldable pub contents_check : List ℕ → ℕ → Reading → Mark → Check (Unit {0})
-contents_check sheet at p LM = passed tt
+contents_check sheet at p LM = Ok tt
 contents_check sheet at p DS = descriptor_check (descriptor_at sheet at)
-contents_check sheet at p CD = passed tt
+contents_check sheet at p CD = Ok tt
 contents_check sheet at p KI = do
-  tag_suits (pool_tag sheet at) (body_length sheet at) else 25
-  word_suits (pool_tag sheet at) (pool_word sheet at) else 25
-  p.used <ⁿ pool_index sheet at else 25
-  last_index sheet at ≤ⁿ 65535 else 25
+  tag_suits (pool_tag sheet at) (body_length sheet at) else Refusal.ConstantRecord
+  word_suits (pool_tag sheet at) (pool_word sheet at) else Refusal.ConstantRecord
+  p.used <ⁿ pool_index sheet at else Refusal.ConstantRecord
+  last_index sheet at ≤ⁿ 65535 else Refusal.ConstantRecord
 contents_check sheet at p EX = do
-  body_length sheet at =ⁿ 8 else 33
-  start_pc sheet at <ⁿ end_pc sheet at else 33
-  start_pc sheet at <ⁿ p.code_length else 33
-  handler_pc sheet at <ⁿ p.code_length else 33
-  end_pc sheet at ≤ⁿ p.code_length else 33
-  is_catch_type sheet p (catch_type sheet at) else 33
+  body_length sheet at =ⁿ 8 else Refusal.HandlerRecord
+  start_pc sheet at <ⁿ end_pc sheet at else Refusal.HandlerRecord
+  start_pc sheet at <ⁿ p.code_length else Refusal.HandlerRecord
+  handler_pc sheet at <ⁿ p.code_length else Refusal.HandlerRecord
+  end_pc sheet at ≤ⁿ p.code_length else Refusal.HandlerRecord
+  is_catch_type sheet p (catch_type sheet at) else Refusal.HandlerRecord
 contents_check sheet at p AR = do
-  argument_count sheet at ≤ⁿ p.max_locals else 27
-  not (is_described p) || (argument_count sheet at =ⁿ p.parameter_places) else 31
+  argument_count sheet at ≤ⁿ p.max_locals else Refusal.TooManyArguments
+  not (is_described p) || (argument_count sheet at =ⁿ p.parameter_places) else Refusal.Descriptor
 
 -- then what it adds to what has been read
 abbrev pub contents_read : List ℕ → ℕ → Reading → Mark → Check Reading
 contents_read sheet at p m = do
   contents_check sheet at p m
-  passed (with_record sheet at m p)
+  Ok (with_record sheet at m p)
 
 -- order as above? 23. Length right? 24. Then 25, 27, 31 or 33
 unfoldable pub marked_check : List ℕ → ℕ → Reading → Mark → Check Reading
 marked_check sheet at p m = do
-  follows m p.last else 23
-  right_length m (body_length sheet at) else 24
+  follows m p.last else Refusal.RecordOrder
+  right_length m (body_length sheet at) else Refusal.RecordLength
   contents_read sheet at p m
 
 -- four bytes and the body present? 21. Mark known? 22. Then 23 to 27, 31 and 33
 unfoldable pub record_check : List ℕ → ℕ → Reading → Check Reading
 record_check sheet at p = do
-  body_at at ≤ⁿ length sheet else 21
-  record_end sheet at ≤ⁿ length sheet else 21
+  body_at at ≤ⁿ length sheet else Refusal.RecordCut
+  record_end sheet at ≤ⁿ length sheet else Refusal.RecordCut
   m ← known_mark (u16 sheet at)
   marked_check sheet at p m
 
 -- at the end of the bytes: was AR seen? 23
 abbrev pub end_check : Reading → Check Reading
 end_check p = do
-  p.last =ⁿ mark_number AR else 23
-  passed p
+  is_last AR p.last else Refusal.RecordOrder
+  Ok p
 
 -- record by record from an offset on. A record has at least four bytes, so that as many turns as there are bytes left are more than enough
 unfoldable pub read_from : ℕ → List ℕ → ℕ → Reading → Check Reading
@@ -232,10 +241,10 @@ sheet_check sheet = read_from (length sheet) sheet 0 unread
 -- then: do slots, kinds and words reach, kinds and words equally long, at most 65,536? 26
 unfoldable pub memory_check : Reading → List ℕ → List ℕ → List ℕ → Check (Unit {0})
 memory_check p slots kinds words = do
-  p.max_locals + p.max_stack ≤ⁿ length slots else 26
-  (p.used =ⁿ 0) || (p.used <ⁿ length kinds) else 26
-  length kinds =ⁿ length words else 26
-  length kinds ≤ⁿ 65536 else 26
+  p.max_locals + p.max_stack ≤ⁿ length slots else Refusal.LentMemory
+  (p.used =ⁿ 0) || (p.used <ⁿ length kinds) else Refusal.LentMemory
+  length kinds =ⁿ length words else Refusal.LentMemory
+  length kinds ≤ⁿ 65536 else Refusal.LentMemory
 
 -- ---- what an accepted load fills
 
@@ -301,7 +310,7 @@ pub record AfterLoad : Type 0 where
 abbrev pub accepted_load : Reading → Loaded
 accepted_load p =
     record {
-      answer = Load.Accepted;
+      answer = Ok tt;
       state = loaded_state p.max_stack p.max_locals p.return_type;
       code = p.code;
       code_length = p.code_length;
@@ -310,25 +319,25 @@ accepted_load p =
     }
 
 -- its number, a state of zeros and twice the empty part at the sheet's start
-abbrev pub refused_load : ℕ → Loaded
-refused_load n = record { answer = Load.Refused n; state = loaded_state 0 0 0; code = 0; code_length = 0; handlers = 0; handlers_length = 0 }
+abbrev pub refused_load : Refusal → Loaded
+refused_load n = record { answer = Err n; state = loaded_state 0 0 0; code = 0; code_length = 0; handlers = 0; handlers_length = 0 }
 
 abbrev pub load_by : List ℕ → List ℕ → List ℕ → List ℕ → Check Reading → AfterLoad
-load_by sheet slots kinds words (passed p) =
+load_by sheet slots kinds words (Ok p) =
     record {
       loaded = accepted_load p;
       slots = loaded_slots sheet p slots;
       kinds = (loaded_pool sheet p kinds words).kinds;
       words = (loaded_pool sheet p kinds words).words;
     }
-load_by sheet slots kinds words (refused n) = record { loaded = refused_load n; slots = slots; kinds = kinds; words = words }
+load_by sheet slots kinds words (Err n) = record { loaded = refused_load n; slots = slots; kinds = kinds; words = words }
 
 -- nothing is written unless the whole sheet and all lengths are accepted
 unfoldable pub load_of : List ℕ → List ℕ → List ℕ → List ℕ → AfterLoad
 load_of sheet slots kinds words = load_by sheet slots kinds words (do
   p ← sheet_check sheet
   memory_check p slots kinds words
-  passed p)
+  Ok p)
 
 -- the part of the sheet with n bytes from an offset on; past its end, the empty part
 abbrev pub part_of : List ℕ → ℕ → ℕ → List ℕ

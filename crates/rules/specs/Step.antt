@@ -1,19 +1,19 @@
 -- One step, decided before anything is written, with question 10; then taken, without history, by any machine. Assumes nothing.
-use Rattle.std.specs.Prelude.{ℕ, zero, suc, ◌+◌, ◌-◌, cond, List, [], ◌∷◌, ◌++◌, ℤ, pos, negsuc, ◌+ℤ◌, length, get_or, take, drop, replicate}
-use Rattle.std.proofs.Math.Option.{Option, none, some}
+use Rattle.std.specs.Prelude.{ℕ, zero, suc, ◌+◌, ◌-◌, cond, List, [], ◌∷◌, ◌++◌, ℤ, pos, negsuc, ◌+ℤ◌, length, get_or, take, drop, replicate, Ok, Err, Some, None, Option}
 use Rattle.std.proofs.Math.Seq.{paste}
 use Rattle.values.specs.declared.Value.{Value}
 use Rattle.values.specs.Kinds.{places_of}
-use Rattle.rules.specs.declared.State.{State}
-use Rattle.rules.specs.declared.Update.{Update}
-use Rattle.rules.specs.declared.Decision.{Decision}
-use Rattle.rules.specs.declared.Decision.TheVariants.{Ordinary, Return, Throw, Refused}
-use Rattle.rules.specs.Check.{Check, passed, refused, ◌else◌, ◌>>=◌, ◌>>◌, ◌≤ⁿ◌, ◌<ⁿ◌, ◌=ⁿ◌}
+use Rattle.rules.specs.declared.states.State.{State}
+use Rattle.rules.specs.declared.updates.Update.{Update}
+use Rattle.rules.specs.Check.{Check, ◌else◌, ◌>>=◌, ◌>>◌, ◌≤ⁿ◌, ◌<ⁿ◌, ◌=ⁿ◌}
 use Rattle.rules.specs.Forms.{Result, pushes, stores, divides, branches, returns, Source, stack, local, pool}
 use Rattle.rules.specs.Fetch.{Instruction, fetched}
 use Rattle.rules.specs.Returns.{returned}
 use Rattle.rules.specs.Questions.{Method, method, frame_size, popped, pushed, frame_check, needs_check}
 use Rattle.rules.specs.Handlers.{handler_at}
+use Rattle.rules.specs.declared.refusals.Refusal.{Refusal}
+use Rattle.rules.specs.declared.halts.Halt.TheVariants.{Return, Throw, Refused}
+use Rattle.rules.specs.Decisions.{Decision}
 
 -- ---- the words that an instruction works on
 
@@ -41,6 +41,10 @@ abbrev pub first_place : ℕ → ℕ → ℕ
 first_place at zero = 0
 first_place at (suc n) = at
 
+-- the first six of some words; those past their end are 0
+abbrev pub six : List ℕ → List ℕ
+six ws = get_or ws 0 0 ∷ get_or ws 1 0 ∷ get_or ws 2 0 ∷ get_or ws 3 0 ∷ get_or ws 4 0 ∷ get_or ws 5 0 ∷ []
+
 -- n words written from place `at` on
 abbrev pub update : ℕ → ℕ → ℕ → ℕ → List ℕ → Update
 update pc depth at n ws =
@@ -49,26 +53,21 @@ update pc depth at n ws =
       depth = depth;
       first = first_place at n;
       many = n;
-      w0 = get_or ws 0 0;
-      w1 = get_or ws 1 0;
-      w2 = get_or ws 2 0;
-      w3 = get_or ws 3 0;
-      w4 = get_or ws 4 0;
-      w5 = get_or ws 5 0;
+      words = six ws;
     }
 
 -- 10. Is the next pc inside the code?
 abbrev pub inside : List ℕ → ℤ → Check ℕ
 inside code (pos n) = do
-  n <ⁿ length code else 11
-  passed n
-inside code (negsuc n) = refused 11
+  n <ⁿ length code else Refusal.Target
+  Ok n
+inside code (negsuc n) = Err Refusal.Target
 
 -- an ordinary step to an offset, with n words written from a place on
 abbrev pub ordinary : Method → State → Instruction → ℤ → ℕ → ℕ → List ℕ → Check Decision
 ordinary l s i to at n ws = do
   pc ← inside l.code to
-  passed (Ordinary (update pc (s.depth - popped i + pushed i) at n ws))
+  Ok (Ok (update pc (s.depth - popped i + pushed i) at n ws))
 
 -- the offset of the next instruction; the target of a branch, which is counted from the opcode; that of a handler, which is counted from the code's start
 abbrev pub following : State → Instruction → ℤ
@@ -84,20 +83,20 @@ handler_target s handler = pos handler
 abbrev pub return_of : ℕ → Value → Check Decision
 return_of t v = do
   r ← returned t v
-  passed (Return r)
+  Ok (Err (Return r))
 
 -- an exception that is caught (JVMS 2.10, and 6.5 of athrow): the stack is emptied and the exception pushed, a reference with the word 1, with question 7; then
 -- question 10 of the handler
 abbrev pub caught_at : List ℕ → State → ℕ → Check Decision
 caught_at code s handler = do
-  1 ≤ⁿ s.max_stack else 8
+  1 ≤ⁿ s.max_stack else Refusal.StackOverflow
   pc ← inside code (handler_target s handler)
-  passed (Ordinary (update pc 1 s.max_locals 1 (1 ∷ [])))
+  Ok (Ok (update pc 1 s.max_locals 1 (1 ∷ [])))
 
 -- an ArithmeticException that is thrown at an offset: caught by the method's handlers, or the outcome
 abbrev pub thrown_to : List ℕ → State → Option ℕ → Check Decision
-thrown_to code s none = passed Throw
-thrown_to code s (some handler) = caught_at code s handler
+thrown_to code s None = Ok (Err Throw)
+thrown_to code s (Some handler) = caught_at code s handler
 
 unfoldable pub thrown_at : Method → State → ℕ → Check Decision
 thrown_at l s pc = thrown_to l.code s (handler_at l.kinds l.words l.handlers pc)
@@ -111,8 +110,8 @@ outcome l s i (branches t z) = ordinary l s i (cond t (target s z) (following s 
 outcome l s i (returns v) = return_of s.return_type v
 
 abbrev pub decision : Check Decision → Decision
-decision (passed d) = d
-decision (refused n) = Refused n
+decision (Ok d) = d
+decision (Err n) = Err (Refused n)
 
 -- questions 1 to 10 in their order, and what the instruction does. It is given the number of slots, the state and the words of the frame: that a step looks at no
 -- other slot is this type
@@ -172,8 +171,9 @@ moved s pc depth count =
       return_type = s.return_type;
     }
 
+-- the six words of an update
 abbrev pub update_words : Update → List ℕ
-update_words u = u.w0 ∷ u.w1 ∷ u.w2 ∷ u.w3 ∷ u.w4 ∷ u.w5 ∷ []
+update_words u = six u.words
 
 abbrev pub written : Update → List ℕ → List ℕ
 written u slots = paste slots u.first (update_words u) u.many
@@ -200,10 +200,10 @@ pub record Stepped : Type 0 where
 
 -- an ordinary step gives count 0; an outcome or a refusal changes nothing but its scratch
 abbrev pub step_by : State → List ℕ → ℕ → Decision → Stepped
-step_by s slots n (Ordinary u) = record { state = moved s u.pc u.depth 0; decision = Ordinary u; slots = cleared s n (written u slots) }
-step_by s slots n (Return v) = record { state = s; decision = Return v; slots = cleared s n slots }
-step_by s slots n Throw = record { state = s; decision = Throw; slots = cleared s n slots }
-step_by s slots n (Refused k) = record { state = s; decision = Refused k; slots = cleared s n slots }
+step_by s slots n (Ok u) = record { state = moved s u.pc u.depth 0; decision = Ok u; slots = cleared s n (written u slots) }
+step_by s slots n (Err (Return v)) = record { state = s; decision = Err (Return v); slots = cleared s n slots }
+step_by s slots n (Err Throw) = record { state = s; decision = (Err Throw); slots = cleared s n slots }
+step_by s slots n (Err (Refused k)) = record { state = s; decision = Err (Refused k); slots = cleared s n slots }
 
 unfoldable pub step_of : Machine → State → List ℕ → Stepped
 step_of x s slots = step_by s slots (decide_on x s slots).scratch (decide_on x s slots).decision

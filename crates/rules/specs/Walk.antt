@@ -1,15 +1,14 @@
 -- A list of presses, each made on what the last one left, and DEMAND 3: what is promised of the whole list, of any machine. Assumes nothing.
-use Rattle.std.specs.Prelude.{ℕ, ◌+◌, ◌^◌, ◌<◌, ◌≡◌, cond, List, [], ◌∷◌, ◌++◌}
-use Rattle.std.proofs.Math.Option.{some}
-use Rattle.rules.specs.declared.State.{State}
-use Rattle.rules.specs.declared.Pressed.{Pressed}
-use Rattle.rules.specs.declared.Pressed.TheVariants.{Granted, Return, Throw, Refused}
-use Rattle.rules.specs.declared.End.TheVariants as End
+use Rattle.std.specs.Prelude.{ℕ, ◌+◌, ◌^◌, ◌<◌, ◌≡◌, cond, List, [], ◌∷◌, ◌++◌, Ok, Err, None, Some}
+use Rattle.rules.specs.declared.states.State.{State}
 use Rattle.rules.specs.Check.{◌=ⁿ◌}
 use Rattle.rules.specs.Step.{Machine, frame, beyond, moved, zeroed}
 use Rattle.rules.specs.Run.{uncounted, run_of}
 use Rattle.rules.specs.History.{AfterPress, forward_of, back_of}
 use Rattle.rules.specs.PlainWalk.{PlainWalk, stage_of, stage, Press, forward, back, plain_answers, plain_net, scratch_from, plain_scratch}
+use Rattle.rules.specs.declared.halts.Halt.TheVariants.{Return, Throw, Refused}
+use Rattle.rules.specs.Decisions.{Pressed}
+use Rattle.rules.specs.Refusals.{number_of}
 
 -- ---- the walk itself
 
@@ -34,16 +33,12 @@ walk_of x (p ∷ ps) s slots log =
 
 -- how many presses of a kind were granted
 abbrev pub one : Press → Press → Pressed → ℕ
-one forward forward Granted = 1
-one forward forward (Return v) = 0
-one forward forward Throw = 0
-one forward forward (Refused n) = 0
+one forward forward (Ok t) = 1
+one forward forward (Err h) = 0
 one forward back a = 0
 one back forward a = 0
-one back back Granted = 1
-one back back (Return v) = 0
-one back back Throw = 0
-one back back (Refused n) = 0
+one back back (Ok t) = 1
+one back back (Err h) = 0
 
 unfoldable pub grants : Press → List Press → List Pressed → ℕ
 grants which [] answers = 0
@@ -52,10 +47,10 @@ grants which (p ∷ ps) (a ∷ rest) = one which p a + grants which ps rest
 
 -- how many presses were refused with a number
 abbrev pub refused_with : ℕ → Pressed → ℕ
-refused_with n Granted = 0
-refused_with n (Return v) = 0
-refused_with n Throw = 0
-refused_with n (Refused m) = cond (m =ⁿ n) 1 0
+refused_with n (Ok t) = 0
+refused_with n (Err (Return v)) = 0
+refused_with n (Err Throw) = 0
+refused_with n (Err (Refused r)) = cond (number_of r =ⁿ n) 1 0
 
 unfoldable pub refusals : ℕ → List Pressed → ℕ
 refusals n [] = 0
@@ -69,7 +64,7 @@ pub record Demand3 (f : PlainWalk) (slots : List ℕ) (presses : List Press) (w 
   -- 14 never comes
   pub sound : refusals 14 w.answers ≡ 0
   -- the walk stands at stage net: same offset, same depth, same word in every local and stack place, also above the top
-  pub at_net : stage f (plain_net f presses 0) ≡ some (stage_of w.state w.slots)
+  pub at_net : stage f (plain_net f presses 0) ≡ Some (stage_of w.state w.slots)
   -- net is the number of granted forwards less that of granted backs
   pub difference : plain_net f presses 0 + grants back presses w.answers ≡ grants forward presses w.answers
   -- the state keeps its sizes and counts the steps
@@ -82,6 +77,6 @@ pub record Demand3 (f : PlainWalk) (slots : List ℕ) (presses : List Press) (w 
       ≡ record {
         state = uncounted w.state;
         steps = plain_net f presses 0;
-        end = End.Stopped;
+        end = None;
         slots = frame f.state w.slots ++ zeroed (scratch_from f f.first (plain_net f presses 0)) (beyond f.state slots);
       }
