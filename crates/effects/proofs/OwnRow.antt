@@ -4,7 +4,6 @@ use Prim.Native.Nat.{ℕ}
 use mathlib.Core.Path.{◌≡◌, refl, ap}
 use mathlib.Core.Bool.{true}
 use mathlib.Core.List.{List, [], ◌∷◌}
-use mathlib.Core.Option.{some}
 use lib.IntN.{ℤ}
 use lib.ListN.{take}
 use Rattle.values.specs.Integers.{signed}
@@ -27,11 +26,11 @@ every_own : (n : ℕ) → OfRow own_effect shared_effect (row_of n)
 unfolding instructions row_of own_effect shared_effect effect_at
 every_own n = every_row_lem own_effect shared_effect refl n
 
-pub own_effect_lem : (n : ℕ) (r : Row) → row_of n ≡ some r → (index constant : ℕ) (pairs : List (ℤ × ℤ)) (a b c d : ℕ) → effect_of (r.rule.does (operands index (signed 31 constant) pairs) (take (works r.rule) (a ∷ b ∷ c ∷ d ∷ []))) ≡ effect_at (shared_of r) constant a b c d
+pub own_effect_lem : (n : ℕ) (r : Row) → row_of n ≡ Some r → (index constant : ℕ) (pairs : List (ℤ × ℤ)) (a b c d : ℕ) → effect_of (r.rule.does (operands index (signed 31 constant) pairs) (take (works r.rule) (a ∷ b ∷ c ∷ d ∷ []))) ≡ effect_at (shared_of r) constant a b c d
 unfolding own_effect shared_effect
 own_effect_lem n r e index constant pairs a b c d = ap (λ f. f index constant pairs a b c d) (of_row own_effect shared_effect (row_of n) r (every_own n) e)
 
 -- and the opcode that a row shares is one of the shared opcodes, as `effect` asks
-pub shared_listed : (n : ℕ) (r : Row) → row_of n ≡ some r → is_in shared_opcodes (shared_of r) ≡ true
+pub shared_listed : (n : ℕ) (r : Row) → row_of n ≡ Some r → is_in shared_opcodes (shared_of r) ≡ true
 unfolding instructions shared_opcodes
 shared_listed n r e = of_row (λ q. is_in shared_opcodes (shared_of q)) (λ q. true) (row_of n) r (every_row_lem (λ q. is_in shared_opcodes (shared_of q)) (λ q. true) refl n) e

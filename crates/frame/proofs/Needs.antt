@@ -4,8 +4,8 @@ use mathlib.Core.Path.{◌≡◌, refl}
 use mathlib.Core.Bool.{Bool, true, false, ◌&&◌}
 use mathlib.Core.List.{List}
 use Rattle.values.specs.Kinds.{Kind, int, long, float, double, reference, any, places_of}
-use Rattle.rules.specs.declared.State.{State}
-use Rattle.rules.specs.Check.{Check, passed, refused, ◌>>◌}
+use Rattle.rules.specs.declared.states.State.{State}
+use Rattle.rules.specs.Check.{Check, ◌>>◌}
 use Rattle.rules.specs.Instructions.{row_of}
 use Rattle.rules.specs.Fetch.{Instruction}
 use Rattle.rules.specs.Questions.{Method, popped, pushed, locals_below, constant_check, needs_check}
@@ -17,6 +17,7 @@ use Rattle.instructions.proofs.Entries.{entry_bytes}
 use Rattle.frame.specs.declared.places.Placed.{Placed}
 use Rattle.frame.specs.declared.places.Placed.TheVariants.{At, Refused}
 use Rattle.frame.specs.Place.{local_there, place_check, answer, place_of}
+use Rattle.std.specs.Prelude.{Ok, Err}
 
 and_yes : (t : Bool) → (t && true) ≡ t
 and_yes true = refl
@@ -33,8 +34,8 @@ one_local_below limit x (one_local any _) = and_yes _
 
 in_turn : (x y z : Check (Unit {0})) → ((x >> y) >> z) ≡ (x >> (y >> z))
 unfolding ◌>>◌
-in_turn (passed t) y z = refl
-in_turn (refused n) y z = refl
+in_turn (Ok t) y z = refl
+in_turn (Err n) y z = refl
 
 -- question 9
 abbrev pub pool_asked : Method → Instruction → Check (Unit {0})
@@ -48,7 +49,7 @@ pub record Stands (l : Method) (s : State) (i : Instruction) (first depth : ℕ)
 
 abbrev pub Says : Method → State → Instruction → Placed → Type 0
 Says l s i (At first depth) = Stands l s i first depth
-Says l s i (Refused n) = needs_check l s i ≡ refused n
+Says l s i (Err n) = needs_check l s i ≡ Err n
 
 module _ (code : List ℕ) (pc : ℕ) (i : Instruction) (t : Sound code pc i) where
   pub popped_in : pops_in (entry_of (row_of i.opcode)) ≡ popped i
@@ -73,12 +74,12 @@ module _ (code : List ℕ) (pc : ℕ) (i : Instruction) (t : Sound code pc i) wh
 
       answer_says : (x : Check (Unit {0})) → needs_check l s i ≡ (x >> pool_asked l i) → Says l s i (answer (entry_of (row_of i.opcode)) s x)
       unfolding ◌>>◌
-      answer_says (passed u) e = record {
+      answer_says (Ok u) e = record {
         asked = e;
         based = rw popped_in;
         deep = rw (popped_in, pushed_in);
       }
-      answer_says (refused n) e = e
+      answer_says (Err n) e = e
 
       pub place_says : Says l s i (place_of (entry_of (row_of i.opcode)) i.operand.index s)
       unfolding place_of

@@ -1,10 +1,11 @@
 -- Questions 6 to 8 from the bytes of an entry of the table, and where an instruction then stands on the stack. Assumes nothing.
-use Rattle.std.specs.Prelude.{ℕ, ◌+◌, ◌-◌, Bool, ◌||◌}
-use Rattle.rules.specs.declared.State.{State}
-use Rattle.rules.specs.Check.{Check, passed, refused, ◌else◌, ◌>>◌, ◌≤ⁿ◌, ◌=ⁿ◌}
+use Rattle.std.specs.Prelude.{ℕ, ◌+◌, ◌-◌, Bool, ◌||◌, Ok, Err}
+use Rattle.rules.specs.declared.states.State.{State}
+use Rattle.rules.specs.Check.{Check, ◌else◌, ◌>>◌, ◌≤ⁿ◌, ◌=ⁿ◌}
 use Rattle.instructions.specs.Table.{pops_in, pushes_in, locals_in}
 use Rattle.frame.specs.declared.places.Placed.{Placed}
 use Rattle.frame.specs.declared.places.Placed.TheVariants.{At, Refused}
+use Rattle.rules.specs.declared.refusals.Refusal.{Refusal}
 
 -- all places of a local are below the limit; a local of no places is none
 abbrev pub local_there : ℕ → ℕ → ℕ → Bool
@@ -12,14 +13,14 @@ local_there places index limit = (places =ⁿ 0) || (index + places ≤ⁿ limit
 
 unfoldable pub place_check : ℕ → ℕ → State → Check (Unit {0})
 place_check entry index s = do
-  pops_in entry ≤ⁿ s.depth else 7
-  s.depth - pops_in entry + pushes_in entry ≤ⁿ s.max_stack else 8
-  local_there (locals_in entry) index s.max_locals else 9
+  pops_in entry ≤ⁿ s.depth else Refusal.StackUnderflow
+  s.depth - pops_in entry + pushes_in entry ≤ⁿ s.max_stack else Refusal.StackOverflow
+  local_there (locals_in entry) index s.max_locals else Refusal.Local
 
 -- the first place on the stack, counted from the first local, and the new depth
 abbrev pub answer : ℕ → State → Check (Unit {0}) → Placed
-answer entry s (passed t) = At (s.max_locals + (s.depth - pops_in entry)) (s.depth - pops_in entry + pushes_in entry)
-answer entry s (refused n) = Refused n
+answer entry s (Ok t) = At (s.max_locals + (s.depth - pops_in entry)) (s.depth - pops_in entry + pushes_in entry)
+answer entry s (Err n) = Err n
 
 unfoldable pub place_of : ℕ → ℕ → State → Placed
 place_of entry index s = answer entry s (place_check entry index s)

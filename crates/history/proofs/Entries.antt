@@ -8,7 +8,7 @@ use lib.Dec.{leb}
 use lib.ListN.{length, get_or, take, drop, length-take, length-drop, get_or-append}
 use lib.Seq.{paste, paste-zero, length-paste, take_all, get_or-append-add, get_or-take, get_or-drop}
 use borrow.Author.Tests.{lt-ltb, le-ltb, le-leb, lt-leb, ne_eqb}
-use Rattle.rules.specs.declared.State.{State}
+use Rattle.rules.specs.declared.states.State.{State}
 use Rattle.rules.specs.Check.{◌else◌, ◌>>◌, is_passed}
 use Rattle.rules.specs.Step.{moved}
 use Rattle.rules.specs.History.{zeros6, old_words, entry_check, restored}

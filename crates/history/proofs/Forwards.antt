@@ -2,15 +2,16 @@
 use Prim.Native.Nat.{ℕ}
 use mathlib.Core.Path.{◌≡◌, refl, sym, ap, ◌∙◌}
 use mathlib.Core.List.{List}
-use Rattle.rules.specs.declared.State.{State}
-use Rattle.rules.specs.declared.Decision.{Decision}
-use Rattle.rules.specs.declared.Decision.TheVariants.{Ordinary, Return, Throw, Refused}
+use Rattle.rules.specs.declared.states.State.{State}
 use Rattle.rules.specs.Questions.{Method}
 use Rattle.rules.specs.Step.{core_machine}
 use Rattle.rules.specs.History.{kept, pressed_by, forward_by, forward_of}
 use Rattle.rules.proofs.History.{forward_by_lem}
 use Rattle.interpreter.specs.Advance.{Reached, advance_from}
 use Rattle.interpreter.proofs.Steps.{Other, not_other, decided_there, slots_there}
+use Rattle.std.specs.Prelude.{Ok, Err}
+use Rattle.rules.specs.declared.halts.Halt.TheVariants.{Return, Throw, Refused}
+use Rattle.rules.specs.Decisions.{Decision}
 
 pub forward_there : (l : Method) (s : State) (slots log : List ℕ) (r : Reached) → r ≡ advance_from l 0 0 s slots
     → (d : Decision) → r.decision ≡ d → forward_by s r.slots log 0 d ≡ forward_of (core_machine l) s slots log
@@ -25,7 +26,7 @@ pub forward_other : (l : Method) (s : State) (slots log : List ℕ) (r : Reached
 forward_other l s slots log r e o = go r.decision o ∙ forward_there l s slots log r e r.decision refl
   where
     go : (d : Decision) → Other d → kept s r.slots log 0 (pressed_by d) ≡ forward_by s r.slots log 0 d
-    go (Ordinary u) h = absurd (not_other u h)
-    go (Return v) h = refl
-    go Throw h = refl
-    go (Refused n) h = refl
+    go (Ok u) h = absurd (not_other u h)
+    go (Err (Return v)) h = refl
+    go (Err Throw) h = refl
+    go (Err (Refused n)) h = refl

@@ -1,7 +1,6 @@
 -- What a press and a list of presses give, with the words that they leave, as the rules have it. Assumes nothing.
-use Rattle.std.specs.Prelude.{ℕ, ◌+◌, List, get_or}
-use Rattle.rules.specs.declared.State.{State}
-use Rattle.rules.specs.declared.Pressed.TheVariants.{Granted}
+use Rattle.std.specs.Prelude.{ℕ, ◌+◌, List, get_or, Ok}
+use Rattle.rules.specs.declared.states.State.{State}
 use Rattle.rules.specs.History.{AfterPress}
 use Rattle.rules.specs.Presses.{Replayed}
 use Rattle.history.specs.declared.undo_log.Entry.{Entry}
@@ -16,7 +15,7 @@ abbrev pub entry_of : List ℕ → ℕ → Entry
 entry_of log k = record { pc = get_or log k 0; depth = get_or log (k + 1) 0; first = get_or log (k + 2) 0; many = get_or log (k + 3) 0 }
 
 abbrev pub taken_back : State → List ℕ → List ℕ → AfterPress
-taken_back s slots log = record { state = s; answer = Granted; slots = slots; log = log }
+taken_back s slots log = record { state = s; answer = (Ok tt); slots = slots; log = log }
 
 abbrev pub left : Replay → List ℕ → List ℕ → List ℕ → Replayed
 left r slots log answers = record { number = r.number; state = r.state; slots = slots; log = log; answers = answers }

@@ -3,7 +3,6 @@ use Prim.Native.Nat.{ℕ, ◌<◌}
 use mathlib.Core.Path.{◌≡◌, refl, subst}
 use mathlib.Core.Bool.{Bool, true}
 use mathlib.Core.List.{List, [], ◌∷◌, map}
-use mathlib.Core.Option.{Option, none, some}
 use lib.Dec.{ltb}
 use Rattle.values.specs.Kinds.{places_of}
 use Rattle.rules.specs.Forms.{Row, Format, alone, implied, byte, short, index, index2, index_const, branch, branch4, table, pairs, widened, length_of}
@@ -11,14 +10,15 @@ use Rattle.rules.specs.Instructions.{instructions, row_of}
 use Rattle.rules.specs.OpcodePage.{line, line_by, line_of}
 use Rattle.rules.proofs.Rows.{OfRow, every_row_lem, of_row, below_256, up_to, agree}
 use Rattle.instructions.specs.Table.{format_of, shared_of, entry_of, length_in, pops_in, pushes_in, locals_in, format_in, shared_in}
+use Rattle.std.specs.Prelude.{Some, None, Option}
 
 abbrev bytes_in : ℕ → List ℕ
 bytes_in e = format_in e ∷ shared_in e ∷ locals_in e ∷ length_in e ∷ pops_in e ∷ pushes_in e ∷ []
 
 -- the numbers of a row; an opcode outside the core has the length 255 and nothing else
 abbrev numbers_of : Option Row → List ℕ
-numbers_of none = 0 ∷ 0 ∷ 0 ∷ 255 ∷ 0 ∷ 0 ∷ []
-numbers_of (some r) =
+numbers_of None = 0 ∷ 0 ∷ 0 ∷ 255 ∷ 0 ∷ 0 ∷ []
+numbers_of (Some r) =
     format_of r.format ∷ shared_of r ∷ places_of r.rule.locals ∷ length_of r.format ∷ places_of r.rule.takes ∷ places_of r.rule.gives ∷ []
 
 -- one test over all 256 entries
@@ -36,8 +36,8 @@ unfolding line_of
 line_in n l = go (row_of n) (table_rule n l)
   where
     go : (o : Option Row) → bytes_in (entry_of o) ≡ numbers_of o → line n (length_in (entry_of o)) (pops_in (entry_of o)) (pushes_in (entry_of o)) ≡ line_by n o
-    go none e = cc
-    go (some r) e = cc
+    go None e = cc
+    go (Some r) e = cc
 
 -- ---- and so are the numbers of a row
 
@@ -62,17 +62,17 @@ few_implied n = every_row_lem (λ r. implied_few r.format) (λ r. true) refl n
 
 -- what an entry's bytes say of its row
 pub record EntryBytes (r : Row) : Type 0 where
-  pub format : format_in (entry_of (some r)) ≡ format_of r.format
-  pub shared : shared_in (entry_of (some r)) ≡ shared_of r
-  pub locals : locals_in (entry_of (some r)) ≡ places_of r.rule.locals
-  pub length : length_in (entry_of (some r)) ≡ length_of r.format
-  pub pops : pops_in (entry_of (some r)) ≡ places_of r.rule.takes
-  pub pushes : pushes_in (entry_of (some r)) ≡ places_of r.rule.gives
+  pub format : format_in (entry_of (Some r)) ≡ format_of r.format
+  pub shared : shared_in (entry_of (Some r)) ≡ shared_of r
+  pub locals : locals_in (entry_of (Some r)) ≡ places_of r.rule.locals
+  pub length : length_in (entry_of (Some r)) ≡ length_of r.format
+  pub pops : pops_in (entry_of (Some r)) ≡ places_of r.rule.takes
+  pub pushes : pushes_in (entry_of (Some r)) ≡ places_of r.rule.gives
   pub few : implied_few r.format ≡ true
 
-pub entry_bytes : (n : ℕ) (r : Row) → row_of n ≡ some r → EntryBytes r
+pub entry_bytes : (n : ℕ) (r : Row) → row_of n ≡ Some r → EntryBytes r
 entry_bytes n r e =
-    let read : bytes_in (entry_of (some r)) ≡ numbers_of (some r) = subst (λ (o : Option Row). bytes_in (entry_of o) ≡ numbers_of o) e (table_rule n (below_256 n r e)) in
+    let read : bytes_in (entry_of (Some r)) ≡ numbers_of (Some r) = subst (λ (o : Option Row). bytes_in (entry_of o) ≡ numbers_of o) e (table_rule n (below_256 n r e)) in
     record {
       format = cc;
       shared = cc;

@@ -3,14 +3,13 @@ use Prim.Native.Nat.{ℕ, zero, suc, ◌+◌, ◌*◌, ◌<◌}
 use mathlib.Core.Path.{◌≡◌, refl, sym, ap, ap₂, ◌∙◌}
 use mathlib.Core.Bool.{Bool, true, false, cond}
 use mathlib.Core.List.{List, [], map}
-use mathlib.Core.Option.{Option, none, some}
 use native.Mathlib.Omega.{arith}
 use lib.IntN.{ℤ, pos}
 use lib.Dec.{leb, eqb, lit≤}
 use lib.ListN.{length}
 use borrow.Author.Tests.{ltb-true, eq-eqb, ne_eqb}
 use Rattle.values.specs.Integers.{low}
-use Rattle.rules.specs.Check.{Check, passed, ◌else◌, ◌>>◌}
+use Rattle.rules.specs.Check.{Check, ◌else◌, ◌>>◌}
 use Rattle.rules.specs.Forms.{Row, Operand, Format, alone, implied, byte, short, index, index2, index_const, branch, branch4, table, pairs, widened, length_of}
 use Rattle.rules.specs.Instructions.{row_of}
 use Rattle.rules.specs.Fetch.{Instruction, instruction, operands, u8, u16, s16, widens, wide_opcode, sized, table_check, lookup_check, wide_check, by_format, fetched}
@@ -23,6 +22,8 @@ use Rattle.instructions.specs.Table.{format_of, entry_of, length_in, format_in}
 use Rattle.instructions.specs.Decode.{decoded}
 use Rattle.instructions.specs.Stages.{fields, fields_of, sized_of, switch_decoded}
 use Rattle.instructions.proofs.Entries.{entry_bytes, implied_few}
+use Rattle.std.specs.Prelude.{Ok, Some, None, Option}
+use Rattle.rules.specs.declared.refusals.Refusal.{Refusal}
 
 -- what an instruction's format makes of its entry e: a length and operands, a table, pairs, or what follows WIDE
 data Class (code : List ℕ) (pc e : ℕ) (r : Row) (f : Format) : Type 0 where
@@ -38,7 +39,7 @@ module _ (code : List ℕ) (pc e : ℕ) (r : Row) (E : entry_of (row_of r.opcode
   unfolding decoded sized_of ◌else◌ ◌>>◌
   sized_is n o = go (leb (pc + n) (length code))
     where
-      go : (t : Bool) → cond t (Decoded.Instruction e n o.index (low 32 o.constant)) (Decoded.Refused 5) ≡ decoded ((t else 5) >> passed (instruction r n o))
+      go : (t : Bool) → cond t (Decoded.Instruction e n o.index (low 32 o.constant)) (Decoded.Err Refusal.OperandBytes) ≡ decoded ((t else Refusal.OperandBytes) >> Ok (instruction r n o))
       go true = rw E
       go false = refl
 
@@ -51,7 +52,7 @@ module _ (code : List ℕ) (pc e : ℕ) (r : Row) (E : entry_of (row_of r.opcode
   asked true n x h = h
   asked false n x h = refl
 
-  accepted : (n : ℕ) (c : ℤ) (ps : List (ℤ × ℤ)) → Alike (passed (instruction r n (operands 0 c ps)))
+  accepted : (n : ℕ) (c : ℤ) (ps : List (ℤ × ℤ)) → Alike (Ok (instruction r n (operands 0 c ps)))
   unfolding Alike decoded switch_of
   accepted n c ps = rw E
 
@@ -94,21 +95,21 @@ module _ (code : List ℕ) (pc : ℕ) where
   abbrev pub here : ℕ
   here = entry_of (row_of (u8 code pc))
 
-  owned : (r : Row) → row_of (u8 code pc) ≡ some r → entry_of (row_of r.opcode) ≡ here
+  owned : (r : Row) → row_of (u8 code pc) ≡ Some r → entry_of (row_of r.opcode) ≡ here
   owned r at = ap (λ (n : ℕ). entry_of (row_of n)) (own_opcode (u8 code pc) r at)
 
   record OfRow (r : Row) : Type 0 where
-    at : row_of (u8 code pc) ≡ some r
+    at : row_of (u8 code pc) ≡ Some r
     class_of : Class code pc here r r.format
     length_is : length_in here ≡ length_of r.format
     format_is : format_in here ≡ format_of r.format
 
-  cases : (P : Type 0) → (row_of (u8 code pc) ≡ none → P) → ((r : Row) → OfRow r → P) → P
+  cases : (P : Type 0) → (row_of (u8 code pc) ≡ None → P) → ((r : Row) → OfRow r → P) → P
   cases P outside inside = go (row_of (u8 code pc)) refl
     where
       go : (o : Option Row) → row_of (u8 code pc) ≡ o → P
-      go none e = outside e
-      go (some r) e =
+      go None e = outside e
+      go (Some r) e =
           let d = entry_bytes (u8 code pc) r e in
           inside r (record {
             at = e;
@@ -117,18 +118,18 @@ module _ (code : List ℕ) (pc : ℕ) where
             format_is = ap (λ (o : Option Row). format_in (entry_of o)) e ∙ d.format;
           })
 
-  outside_length : row_of (u8 code pc) ≡ none → length_in here ≡ 255
+  outside_length : row_of (u8 code pc) ≡ None → length_in here ≡ 255
   unfolding entry_of
   outside_length e = ap (λ (o : Option Row). length_in (entry_of o)) e
 
   same : (r : Row) → OfRow r → {d : Decoded} → d ≡ decoded (by_format code pc r r.format) → d ≡ decoded (fetched code pc)
   same r o p = p ∙ ap decoded (sym (of_core code pc r o.at))
 
-  pub no_instruction : length_in here ≡ 255 → Decoded.Refused 4 ≡ decoded (fetched code pc)
+  pub no_instruction : length_in here ≡ 255 → Decoded.Err Refusal.Opcode ≡ decoded (fetched code pc)
   unfolding decoded
   no_instruction h = cases _ (λ e. ap decoded (sym (not_core code pc e))) (λ r o. go r o.length_is o.class_of)
     where
-      go : (r : Row) → length_in here ≡ length_of r.format → Class code pc here r r.format → Decoded.Refused 4 ≡ decoded (fetched code pc)
+      go : (r : Row) → length_in here ≡ length_of r.format → Class code pc here r r.format → Decoded.Err Refusal.Opcode ≡ decoded (fetched code pc)
       go r l (of_fixed_length a b s) = absurd (omega arith)
       go r l (of_table a b s) = absurd (omega arith)
       go r l (of_pairs a b s) = absurd (omega arith)
@@ -199,15 +200,15 @@ module _ (code : List ℕ) (pc : ℕ) (there : pc + 1 < length code) (allowed : 
   core_and_doubled : ◌≡◌ {A = Bool × ℕ} (is_some (row_of (wide_opcode code pc)), 2 * length_in widened_entry) (true, wide_length (wide_opcode code pc))
   core_and_doubled = rw allowed at (agree found_wide expected_wide 256 wide_all (wide_opcode code pc) B)
 
-  wide_row : (P : Type 0) → ((r : Row) → row_of (wide_opcode code pc) ≡ some r → P) → P
+  wide_row : (P : Type 0) → ((r : Row) → row_of (wide_opcode code pc) ≡ Some r → P) → P
   wide_row P k = go (row_of (wide_opcode code pc)) refl
     where
       go : (o : Option Row) → row_of (wide_opcode code pc) ≡ o → P
-      go none e = let z : false ≡ true = ap is_some (sym e) ∙ ap (λ (p : Bool × ℕ). p.0) core_and_doubled in let y : ◌≡◌ {A = ℕ} 0 1 = cc in absurd (omega arith)
-      go (some r) e = k r e
+      go None e = let z : false ≡ true = ap is_some (sym e) ∙ ap (λ (p : Bool × ℕ). p.0) core_and_doubled in let y : ◌≡◌ {A = ℕ} 0 1 = cc in absurd (omega arith)
+      go (Some r) e = k r e
 
   -- an instruction of n bytes is of twice the entry's length
-  doubled : (n : ℕ) (o : Operand) → wide_length (wide_opcode code pc) ≡ n → ((r : Row) → row_of (wide_opcode code pc) ≡ some r → wide_check code pc ≡ sized code pc r n o)
+  doubled : (n : ℕ) (o : Operand) → wide_length (wide_opcode code pc) ≡ n → ((r : Row) → row_of (wide_opcode code pc) ≡ Some r → wide_check code pc ≡ sized code pc r n o)
       → sized_of code pc widened_entry (2 * length_in widened_entry) (fields o.index (low 32 o.constant)) ≡ decoded (wide_check code pc)
   doubled n o l k = wide_row _ (λ r e.
       ap (λ (m : ℕ). sized_of code pc widened_entry m (fields o.index (low 32 o.constant))) (ap (λ (p : Bool × ℕ). p.1) core_and_doubled ∙ l)

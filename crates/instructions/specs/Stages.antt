@@ -1,12 +1,13 @@
 -- Decoding in the stages of the code, on an entry of the table: for the contracts of private functions, tied to questions 4 and 5 by proofs/Fetching.
 -- Assumes nothing.
-use Rattle.std.specs.Prelude.{ℕ, ◌+◌, ◌-◌, cond, List, ltb, leb, eqb, length}
+use Rattle.std.specs.Prelude.{ℕ, ◌+◌, ◌-◌, cond, List, ltb, leb, eqb, length, Err}
 use Rattle.values.specs.Integers.{low}
 use Rattle.rules.specs.Fetch.{u8, u16, s8, s16, s32}
 use Rattle.operands.specs.declared.switches.Switch.{Switch}
 use Rattle.instructions.specs.declared.decoding.Fields.{Fields}
 use Rattle.instructions.specs.declared.decoding.Decoded.{Decoded}
 use Rattle.instructions.specs.declared.decoding.Decoded.TheVariants.{Instruction, Refused}
+use Rattle.rules.specs.declared.refusals.Refusal.{Refusal}
 
 abbrev pub fields : ℕ → ℕ → Fields
 fields x c = record { index = x; constant = c }
@@ -25,8 +26,8 @@ fields_of code at f =
 
 -- an instruction of n bytes, if they are there
 unfoldable pub sized_of : List ℕ → ℕ → ℕ → ℕ → Fields → Decoded
-sized_of code at e n o = cond (leb (at + n) (length code)) (Instruction e n o.index o.constant) (Refused 5)
+sized_of code at e n o = cond (leb (at + n) (length code)) (Instruction e n o.index o.constant) (Err Refusal.OperandBytes)
 
 abbrev pub switch_decoded : ℕ → Switch → Decoded
 switch_decoded e (Switch.Accepted n c) = Instruction e n 0 c
-switch_decoded e (Switch.Refused n) = Refused n
+switch_decoded e (Switch.Err n) = Err n

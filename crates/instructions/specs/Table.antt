@@ -1,6 +1,5 @@
 -- What the step reads of an instruction's row, packed into one number: the table that the step uses. Assumes nothing.
-use Rattle.std.specs.Prelude.{ℕ, ◌+◌, ◌*◌, ◌/◌, ◌%◌, Bool, false, ◌&&◌, ◌||◌, cond, List, [], ◌∷◌, leb, eqb}
-use Rattle.std.proofs.Math.Option.{Option, none, some}
+use Rattle.std.specs.Prelude.{ℕ, ◌+◌, ◌*◌, ◌/◌, ◌%◌, Bool, false, ◌&&◌, ◌||◌, cond, List, [], ◌∷◌, leb, eqb, Some, None, Option}
 use Rattle.values.specs.Kinds.{places_of}
 use Rattle.rules.specs.Forms.{Row, Format, alone, implied, byte, short, index, index2, index_const, branch, branch4, table, pairs, widened, length_of}
 
@@ -42,8 +41,8 @@ packed format shared locals length popped pushed =
 
 -- an opcode outside the core has the length 255
 unfoldable pub entry_of : Option Row → ℕ
-entry_of none = packed 0 0 0 255 0 0
-entry_of (some r) =
+entry_of None = packed 0 0 0 255 0 0
+entry_of (Some r) =
     packed (format_of r.format) (shared_of r) (places_of r.rule.locals) (length_of r.format) (places_of r.rule.takes) (places_of r.rule.gives)
 
 -- the bytes read back

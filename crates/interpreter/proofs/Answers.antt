@@ -9,9 +9,8 @@ use lib.IntN.{ℤ, pos, negsuc}
 use lib.ListN.{length}
 use borrow.Author.Tests.{ltb-true}
 use Rattle.values.specs.Integers.{low}
-use Rattle.rules.specs.declared.State.{State}
-use Rattle.rules.specs.declared.Decision.TheVariants as Decision
-use Rattle.rules.specs.Check.{Check, passed, refused, ◌else◌, ◌>>◌}
+use Rattle.rules.specs.declared.states.State.{State}
+use Rattle.rules.specs.Check.{Check, ◌else◌, ◌>>◌}
 use Rattle.rules.specs.Fetch.{Instruction, fetched}
 use Rattle.rules.specs.Questions.{Method, frame_check}
 use Rattle.rules.specs.Step.{frame, inside, decide_of}
@@ -24,7 +23,6 @@ use Rattle.instructions.specs.declared.decoding.Decoded.TheVariants as Decoded
 use Rattle.instructions.specs.Decode.{decoded}
 use Rattle.instructions.specs.Table.{is_in, shared_in}
 use Rattle.effects.specs.Families.{shared_opcodes}
-use Rattle.rules.specs.declared.Checked.TheVariants as Checked
 use Rattle.frame.specs.declared.places.Placed.{Placed}
 use Rattle.rules.specs.Answers.{checked}
 use Rattle.frame.specs.Place.{place_of}
@@ -34,10 +32,13 @@ use Rattle.return_types.specs.Settled.{settled}
 use Rattle.interpreter.specs.Stages.{reach, located_of, located_decision}
 use Rattle.interpreter.proofs.Decision.{entry_at, listed}
 use Rattle.interpreter.proofs.Sources.{located_decides}
+use Rattle.std.specs.Prelude.{Ok, Err}
+use Rattle.rules.specs.declared.refusals.Refusal.{Refusal}
+use Rattle.rules.specs.declared.halts.Halt.TheVariants.{Refused}
 
 -- ---- questions 1 to 3
 
-pub by_frame : (l : Method) (s : State) (slots : List ℕ) (n : ℕ) → Checked.Refused n ≡ checked (frame_check l s (length slots)) → decide_of l s slots ≡ Decision.Refused n
+pub by_frame : (l : Method) (s : State) (slots : List ℕ) (n : ℕ) → Err n ≡ checked (frame_check l s (length slots)) → decide_of l s slots ≡ Err (Refused n)
 by_frame l s slots n e = refused_by_frame l (length slots) s (frame s slots) n (row_refused (frame_check l s (length slots)) n e)
 
 -- ---- questions 4 and 5
@@ -45,7 +46,7 @@ by_frame l s slots n e = refused_by_frame l (length slots) s (frame s slots) n (
 -- the instruction that was decoded
 pub record Decodes (code : List ℕ) (pc entry size index constant : ℕ) : Type 0 where
   pub i : Instruction
-  pub at : fetched code pc ≡ passed i
+  pub at : fetched code pc ≡ Ok i
   pub entered : entry ≡ entry_at i
   pub sized : size ≡ i.size
   pub indexed : index ≡ i.operand.index
@@ -56,16 +57,16 @@ unfolding decoded
 decodes code pc entry size index constant e = go (fetched code pc) refl e
   where
     go : (x : Check Instruction) → fetched code pc ≡ x → Decoded.Instruction entry size index constant ≡ decoded x → Decodes code pc entry size index constant
-    go (passed i) f h = record { i = i; at = f; entered = cc; sized = cc; indexed = cc; as_word = cc }
-    go (refused n) f h = let z : ◌≡◌ {A = ℕ} 0 1 = cc in absurd (omega arith)
+    go (Ok i) f h = record { i = i; at = f; entered = cc; sized = cc; indexed = cc; as_word = cc }
+    go (Err n) f h = let z : ◌≡◌ {A = ℕ} 0 1 = cc in absurd (omega arith)
 
-not_decoded : (x : Check Instruction) (n : ℕ) → Decoded.Refused n ≡ decoded x → x ≡ refused n
+not_decoded : (x : Check Instruction) (n : ℕ) → Decoded.Err (Refused n) ≡ decoded x → x ≡ Err n
 unfolding decoded
-not_decoded (passed i) n e = let z : ◌≡◌ {A = ℕ} 0 1 = cc in absurd (omega arith)
-not_decoded (refused k) n e = cc
+not_decoded (Ok i) n e = let z : ◌≡◌ {A = ℕ} 0 1 = cc in absurd (omega arith)
+not_decoded (Err k) n e = cc
 
-module _ (l : Method) (s : State) (slots : List ℕ) (framed : frame_check l s (length slots) ≡ passed tt) where
-  pub by_fetch : (n : ℕ) → Decoded.Refused n ≡ decoded (fetched l.code s.pc) → decide_of l s slots ≡ Decision.Refused n
+module _ (l : Method) (s : State) (slots : List ℕ) (framed : frame_check l s (length slots) ≡ Ok tt) where
+  pub by_fetch : (n : ℕ) → Decoded.Err (Refused n) ≡ decoded (fetched l.code s.pc) → decide_of l s slots ≡ Err (Refused n)
   by_fetch n e = refused_by_fetch l (length slots) s (frame s slots) framed n (not_decoded (fetched l.code s.pc) n e)
 
   -- ---- questions 6 to 10
@@ -74,8 +75,8 @@ module _ (l : Method) (s : State) (slots : List ℕ) (framed : frame_check l s (
     says : (x : Placed) → x ≡ place_of entry index s → Says l s d.i x
     says x e = rw (e, d.entered, d.indexed) (place_says l.code s.pc d.i (fetched_sound l.code s.pc d.i d.at) s l)
 
-    pub by_needs : (n : ℕ) → Placed.Refused n ≡ place_of entry index s → decide_of l s slots ≡ Decision.Refused n
-    by_needs n e = refused_by_needs l (length slots) s (frame s slots) framed d.i d.at n (says (Placed.Refused n) e)
+    pub by_needs : (n : ℕ) → Placed.Err (Refused n) ≡ place_of entry index s → decide_of l s slots ≡ Err (Refused n)
+    by_needs n e = refused_by_needs l (length slots) s (frame s slots) framed d.i d.at n (says (Placed.Err (Refused n)) e)
 
     pub by_located : l.handlers ≡ [] → (first depth : ℕ) → Placed.At first depth ≡ place_of entry index s
         → settled s.return_type (located_decision l.code l.kinds l.words slots s.pc (located_of entry index constant (s.pc + size) first depth)) ≡ decide_of l s slots
@@ -100,6 +101,6 @@ unfolding target_of ◌else◌ ◌>>◌
 target_reach code (negsuc m) t e short = rw e (omega arith)
 target_reach code (pos m) t e short = rw e (go (ltb m (length code)) refl)
   where
-    go : (b : Bool) → ltb m (length code) ≡ b → reach (target_of ((b else 11) >> passed m)) ≤ 65535
+    go : (b : Bool) → ltb m (length code) ≡ b → reach (target_of ((b else Refusal.Target) >> Ok m)) ≤ 65535
     go true h = omega (arith, ltb-true m (length code) h)
     go false h = omega arith

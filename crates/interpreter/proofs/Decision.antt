@@ -10,9 +10,8 @@ use borrow.Author.Tests.{eqb-true}
 use Rattle.values.specs.Kinds.{int, places_of}
 use Rattle.values.specs.Integers.{signed, low}
 use Rattle.values.specs.Words.{meaning}
-use Rattle.rules.specs.declared.State.{State}
-use Rattle.rules.specs.declared.Decision.{Decision}
-use Rattle.rules.specs.Check.{Check, passed, refused, ◌>>=◌}
+use Rattle.rules.specs.declared.states.State.{State}
+use Rattle.rules.specs.Check.{Check, ◌>>=◌}
 use Rattle.rules.specs.Forms.{Rule, Operand, Result, offset_for, pushes, stores, divides, branches, returns}
 use Rattle.rules.specs.Instructions.{row_of}
 use Rattle.rules.specs.Fetch.{Instruction, operands, fetched}
@@ -35,6 +34,8 @@ use Rattle.return_types.specs.Settled.{settled}
 use Rattle.interpreter.specs.declared.finishing.Located.{Located}
 use Rattle.interpreter.specs.Stages.{located_of, ordinary_to, offset_at, branch_of, finish_of}
 use Rattle.interpreter.proofs.Results.{does_four, is_store, row_stores_lem, offset_by, offset_of, row_offset_lem, row_table, row_pairs}
+use Rattle.std.specs.Prelude.{Ok, Err}
+use Rattle.rules.specs.declared.halts.Halt.TheVariants.{Throw}
 
 -- ---- what a result comes to
 
@@ -45,10 +46,10 @@ module _ (l : Method) (s : State) (i : Instruction) where
   ordinary_is to at n ws = go (inside l.code to)
     where
       go : (x : Check ℕ)
-          → decision (x >>= λ pc. passed (Decision.Ordinary (update pc (s.depth - popped i + pushed i) at n ws)))
+          → decision (x >>= λ pc. Ok (Ok (update pc (s.depth - popped i + pushed i) at n ws)))
           ≡ settled s.return_type (ordinary_to (target_of x) (s.depth - popped i + pushed i) at n (six ws))
-      go (passed pc) = refl
-      go (refused n) = refl
+      go (Ok pc) = refl
+      go (Err n) = refl
 
   -- a located instruction is this one, if it stores where `store` says and branches by z on a key
   record Locates (i' : Located) (store : Bool) (z : ℤ) (key : ℕ) : Type 0 where
@@ -59,7 +60,7 @@ module _ (l : Method) (s : State) (i : Instruction) where
     offset : offset_at l.code s.pc i'.op i'.constant key ≡ z
 
   module _ (bare : l.handlers ≡ []) (i' : Located) (key : ℕ) (z : ℤ) where
-    uncaught : decision (thrown_at l s s.pc) ≡ Decision.Throw
+    uncaught : decision (thrown_at l s s.pc) ≡ (Err Throw)
     unfolding thrown_at handler_from
     uncaught = rw bare
 
@@ -69,7 +70,7 @@ module _ (l : Method) (s : State) (i : Instruction) where
     finished_by (stores ws) h = rw (h.next, h.deep, h.first, h.many) (sym (ordinary_is (following s i) i.operand.index (places_of i.rule.locals) ws))
     finished_by (divides by ws) h = go (eqb by 0)
       where
-        go : (t : Bool) → settled s.return_type (finish_of l.code s.pc i' key (cond t Effect.Throw (Effect.Words (six ws)))) ≡ decision (cond t (thrown_at l s s.pc) (ordinary l s i (following s i) (base s i) (pushed i) ws))
+        go : (t : Bool) → settled s.return_type (finish_of l.code s.pc i' key (cond t Effect.(Err Throw) (Effect.Words (six ws)))) ≡ decision (cond t (thrown_at l s s.pc) (ordinary l s i (following s i) (base s i) (pushed i) ws))
         go true = sym uncaught
         go false = rw (h.next, h.deep, h.first, h.many) (sym (ordinary_is (following s i) (base s i) (pushed i) ws))
     finished_by (branches t y) h = rw (h.next, h.deep, h.offset) (sym (ordinary_is (cond t (target s y) (following s i)) 0 0 []))
@@ -123,7 +124,7 @@ module _ (l : Method) (s : State) (i : Instruction) (f : Sound l.code s.pc i) wh
         })
 
     -- once four words are what it works on
-    module _ (bare : l.handlers ≡ []) (slots : List ℕ) (framed : frame_check l s (length slots) ≡ passed tt) (at : fetched l.code s.pc ≡ passed i) (needed : needs_check l s i ≡ passed tt) where
+    module _ (bare : l.handlers ≡ []) (slots : List ℕ) (framed : frame_check l s (length slots) ≡ Ok tt) (at : fetched l.code s.pc ≡ Ok i) (needed : needs_check l s i ≡ Ok tt) where
       pub from_words : (a b c d : ℕ) → words_at i.rule.reads l s (frame s slots) i ≡ take (works i.rule) (a ∷ b ∷ c ∷ d ∷ [])
           → settled s.return_type (finish_of l.code s.pc (located_at s i first depth) a (effect_at (shared_in (entry_at i)) (low 32 i.operand.constant) a b c d)) ≡ decide_of l s slots
       from_words a b c d w =

@@ -1,4 +1,5 @@
 -- Laws that other crates cite
+use Rattle.rules.specs.Decisions.{Decision}
 pub mod Steps
 -- Laws for this crate's functions
 mod Results

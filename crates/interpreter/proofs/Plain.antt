@@ -4,7 +4,6 @@ use mathlib.Core.Path.{◌≡◌, refl, sym, ap, ◌∙◌}
 use mathlib.Core.Bool.{Bool, true, false, cond}
 use mathlib.Core.List.{List, [], ◌∷◌}
 use mathlib.Core.Logic.{⊎_elim}
-use mathlib.Core.Option.{Option, none, some}
 use native.Mathlib.Omega.{arith}
 use types.Run.{OneOf}
 use denote.Enum.Declared.{tag_of}
@@ -13,12 +12,10 @@ use lib.IntN.{ℤ, pos}
 use lib.ListN.{length}
 use Rattle.values.specs.declared.Value.{Value}
 use Rattle.values.specs.Kinds.{places_of}
-use Rattle.rules.specs.declared.State.{State}
-use Rattle.rules.specs.declared.Update.{Update}
-use Rattle.rules.specs.declared.Decision.{Decision}
-use Rattle.rules.specs.declared.Decision.TheVariants.{Ordinary, Return, Throw, Refused}
+use Rattle.rules.specs.declared.states.State.{State}
+use Rattle.rules.specs.declared.updates.Update.{Update}
 use Rattle.rules.specs.contracts.Decision.{the_type}
-use Rattle.rules.specs.Check.{Check, passed, refused, ◌else◌, ◌>>=◌, ◌>>◌}
+use Rattle.rules.specs.Check.{Check, ◌else◌, ◌>>=◌, ◌>>◌}
 use Rattle.rules.specs.Forms.{Result, pushes, stores, divides, branches, returns, Source, stack, local, pool}
 use Rattle.rules.specs.Fetch.{Instruction, fetched}
 use Rattle.rules.specs.Returns.{returned}
@@ -32,13 +29,17 @@ use Rattle.return_types.specs.Settled.{settled}
 use Rattle.interpreter.specs.Advance.{Reached, stands, advance_from}
 use Rattle.interpreter.specs.Stages.{caught}
 use Rattle.interpreter.proofs.Steps.{advance_ordinary, Going}
+use Rattle.std.specs.Prelude.{Ok, Err, Some, None, Option}
+use Rattle.rules.specs.declared.refusals.Refusal.{Refusal}
+use Rattle.rules.specs.declared.halts.Halt.TheVariants.{Return, Throw, Refused}
+use Rattle.rules.specs.Decisions.{Decision}
 
 -- the method without its handlers
 abbrev pub bare : Method → Method
 bare l = method l.code l.kinds l.words []
 
 -- questions 1 to 3 do not look at them
-pub bare_framed : (l : Method) (s : State) (n : ℕ) → frame_check l s n ≡ passed tt → frame_check (bare l) s n ≡ passed tt
+pub bare_framed : (l : Method) (s : State) (n : ℕ) → frame_check l s n ≡ Ok tt → frame_check (bare l) s n ≡ Ok tt
 unfolding frame_check
 bare_framed l s n f = f
 
@@ -54,43 +55,43 @@ without_handlers l e most n s slots = ap (λ (h : List ℕ). advance_from (metho
 
 -- a decision that is no throw, as `let .. else` leaves it, is none of the handlers' business
 pub caught_other : (l : Method) (s : State) (d : Decision) → OneOf (0 ∷ 1 ∷ 3 ∷ []) (tag_of the_type d) → d ≡ caught l s d
-caught_other l s (Ordinary u) h = refl
-caught_other l s (Return v) h = refl
-caught_other l s Throw h = absurd (⊎_elim (λ z. omega arith) (⊎_elim (λ z. omega arith) (λ z. omega arith)) h)
-caught_other l s (Refused n) h = refl
+caught_other l s (Ok u) h = refl
+caught_other l s (Err (Return v)) h = refl
+caught_other l s (Err Throw) h = absurd (⊎_elim (λ z. omega arith) (⊎_elim (λ z. omega arith) (λ z. omega arith)) h)
+caught_other l s (Err (Refused n)) h = refl
 
 module _ (l : Method) (s : State) where
   -- question 32 may be asked before or after
   pub caught_settled : (d : Decision) → settled s.return_type (caught l s d) ≡ caught l s (settled s.return_type d)
   unfolding thrown_at ◌else◌ ◌>>=◌ ◌>>◌
-  caught_settled (Ordinary u) = refl
-  caught_settled (Return v) = go (returned s.return_type v)
+  caught_settled (Ok u) = refl
+  caught_settled (Err (Return v)) = go (returned s.return_type v)
     where
-      go : (x : Check Value) → decision (x >>= λ r. passed (Return r)) ≡ caught l s (decision (x >>= λ r. passed (Return r)))
-      go (passed r) = refl
-      go (refused n) = refl
-  caught_settled Throw = go (handler_at l.kinds l.words l.handlers s.pc)
+      go : (x : Check Value) → decision (x >>= λ r. Ok (Err (Return r))) ≡ caught l s (decision (x >>= λ r. Ok (Err (Return r))))
+      go (Ok r) = refl
+      go (Err n) = refl
+  caught_settled (Err Throw) = go (handler_at l.kinds l.words l.handlers s.pc)
     where
       by_place : (t : Bool) (x : Check ℕ)
-          → settled s.return_type (decision ((t else 8) >> (x >>= λ to. passed (Ordinary (update to 1 s.max_locals 1 (1 ∷ []))))))
-          ≡ decision ((t else 8) >> (x >>= λ to. passed (Ordinary (update to 1 s.max_locals 1 (1 ∷ [])))))
-      by_place true (passed to) = refl
-      by_place true (refused n) = refl
+          → settled s.return_type (decision ((t else Refusal.StackOverflow) >> (x >>= λ to. Ok (Ok (update to 1 s.max_locals 1 (1 ∷ []))))))
+          ≡ decision ((t else Refusal.StackOverflow) >> (x >>= λ to. Ok (Ok (update to 1 s.max_locals 1 (1 ∷ [])))))
+      by_place true (Ok to) = refl
+      by_place true (Err n) = refl
       by_place false x = refl
 
       go : (x : Option ℕ) → settled s.return_type (decision (thrown_to l.code s x)) ≡ decision (thrown_to l.code s x)
-      go none = refl
-      go (some h) = by_place (leb 1 s.max_stack) (inside l.code (pos h))
-  caught_settled (Refused n) = refl
+      go None = refl
+      go (Some h) = by_place (leb 1 s.max_stack) (inside l.code (pos h))
+  caught_settled (Err (Refused n)) = refl
 
   module _ (i : Instruction) where
     ordinary_caught : (to : ℤ) (at n : ℕ) (ws : List ℕ) → decision (ordinary l s i to at n ws) ≡ caught l s (decision (ordinary (bare l) s i to at n ws))
     unfolding ◌>>=◌
     ordinary_caught to at n ws = go (inside l.code to) _
       where
-        go : (x : Check ℕ) (f : ℕ → Update) → decision (x >>= λ pc. passed (Ordinary (f pc))) ≡ caught l s (decision (x >>= λ pc. passed (Ordinary (f pc))))
-        go (passed pc) f = refl
-        go (refused n) f = refl
+        go : (x : Check ℕ) (f : ℕ → Update) → decision (x >>= λ pc. Ok (Ok (f pc))) ≡ caught l s (decision (x >>= λ pc. Ok (Ok (f pc))))
+        go (Ok pc) f = refl
+        go (Err n) f = refl
 
     outcome_caught : (r : Result) → decision (outcome l s i r) ≡ caught l s (decision (outcome (bare l) s i r))
     unfolding thrown_at handler_from ◌>>=◌
@@ -106,9 +107,9 @@ module _ (l : Method) (s : State) where
     outcome_caught (branches t z) = ordinary_caught (cond t (target s z) (following s i)) 0 0 []
     outcome_caught (returns v) = go (returned s.return_type v)
       where
-        go : (x : Check Value) → decision (x >>= λ r. passed (Return r)) ≡ caught l s (decision (x >>= λ r. passed (Return r)))
-        go (passed r) = refl
-        go (refused n) = refl
+        go : (x : Check Value) → decision (x >>= λ r. Ok (Err (Return r))) ≡ caught l s (decision (x >>= λ r. Ok (Err (Return r))))
+        go (Ok r) = refl
+        go (Err n) = refl
 
   -- it works on the same words
   words_same : (i : Instruction) (words : List ℕ) (p : Source) → words_at p l s words i ≡ words_at p (bare l) s words i
@@ -118,13 +119,13 @@ module _ (l : Method) (s : State) where
 
   after_caught : (x : Check (Unit {0})) (y z : Check Decision) → decision y ≡ caught l s (decision z) → decision (x >> y) ≡ caught l s (decision (x >> z))
   unfolding ◌>>◌
-  after_caught (passed t) y z h = h
-  after_caught (refused n) y z h = refl
+  after_caught (Ok t) y z h = h
+  after_caught (Err n) y z h = refl
 
   bound_caught : (x : Check Instruction) (f g : Instruction → Check Decision) → ((i : Instruction) → decision (f i) ≡ caught l s (decision (g i))) → decision (x >>= f) ≡ caught l s (decision (x >>= g))
   unfolding ◌>>=◌
-  bound_caught (passed i) f g h = h i
-  bound_caught (refused n) f g h = refl
+  bound_caught (Ok i) f g h = h i
+  bound_caught (Err n) f g h = refl
 
   -- THE LAW: what is decided without handlers, by the handlers, is what is decided with them
   pub decide_caught : (slots : List ℕ) → decide_of l s slots ≡ caught l s (decide_of (bare l) s slots)
@@ -141,22 +142,22 @@ pub record Plain (l : Method) (k n : ℕ) (s : State) (slots : List ℕ) (r : Re
   pub from : n ≤ r.steps
   pub upto : r.steps ≤ n + k
   pub long : length r.slots ≡ length slots
-  pub framed : frame_check l r.state (length r.slots) ≡ passed tt
+  pub framed : frame_check l r.state (length r.slots) ≡ Ok tt
   pub decides : r.decision ≡ decide_of (bare l) r.state r.slots
   pub leads : advance_from l k n s slots ≡ advance_from l (n + k - r.steps) r.steps r.state r.slots
 
 module _ (l : Method) where
-  plain_stays : (k n : ℕ) (s : State) (slots : List ℕ) → frame_check l s (length slots) ≡ passed tt → (d : Decision) → decide_of (bare l) s slots ≡ d → Plain l k n s slots (stands s n slots d)
+  plain_stays : (k n : ℕ) (s : State) (slots : List ℕ) → frame_check l s (length slots) ≡ Ok tt → (d : Decision) → decide_of (bare l) s slots ≡ d → Plain l k n s slots (stands s n slots d)
   plain_stays k n s slots f d e =
       let left : n + k - n ≡ k = omega arith in
       record { from = omega arith; upto = omega arith; long = refl; framed = f; decides = sym e; leads = rw left }
 
-  plain_moves : (k n : ℕ) (s : State) (slots : List ℕ) → frame_check l s (length slots) ≡ passed tt
-      → ((t : State) (after : List ℕ) → frame_check l t (length after) ≡ passed tt → Plain l k (suc n) t after (advance_from (bare l) k (suc n) t after))
-      → (u : Update) → decide_of (bare l) s slots ≡ Ordinary u → Plain l (suc k) n s slots (advance_from (bare l) k (suc n) (moved s u.pc u.depth 0) (written u slots))
+  plain_moves : (k n : ℕ) (s : State) (slots : List ℕ) → frame_check l s (length slots) ≡ Ok tt
+      → ((t : State) (after : List ℕ) → frame_check l t (length after) ≡ Ok tt → Plain l k (suc n) t after (advance_from (bare l) k (suc n) t after))
+      → (u : Update) → decide_of (bare l) s slots ≡ Ok u → Plain l (suc k) n s slots (advance_from (bare l) k (suc n) (moved s u.pc u.depth 0) (written u slots))
   unfolding advance_from
   plain_moves k n s slots f more u e =
-      let o : decide_of l s slots ≡ Ordinary u = decide_caught l s slots ∙ ap (caught l s) e in
+      let o : decide_of l s slots ≡ Ok u = decide_caught l s slots ∙ ap (caught l s) e in
       let legal = ordinary_legal l s slots u o in
       let same = written_length l s slots u legal in
       let p = more (moved s u.pc u.depth 0) (written u slots) (rw same (frame_passed l (moved s u.pc u.depth 0) (length slots) (still_framed l s (length slots) u legal 0))) in
@@ -171,16 +172,16 @@ module _ (l : Method) where
         leads = advance_ordinary l n s slots k u o ∙ p.leads ∙ ap (λ (m : ℕ). advance_from l m r.steps r.state r.slots) left;
       }
 
-  plain_by : (k n : ℕ) (s : State) (slots : List ℕ) → frame_check l s (length slots) ≡ passed tt
-      → ((t : State) (after : List ℕ) → frame_check l t (length after) ≡ passed tt → Plain l k (suc n) t after (advance_from (bare l) k (suc n) t after))
+  plain_by : (k n : ℕ) (s : State) (slots : List ℕ) → frame_check l s (length slots) ≡ Ok tt
+      → ((t : State) (after : List ℕ) → frame_check l t (length after) ≡ Ok tt → Plain l k (suc n) t after (advance_from (bare l) k (suc n) t after))
       → (d : Decision) → decide_of (bare l) s slots ≡ d → Plain l (suc k) n s slots (advance_from (bare l) (suc k) n s slots)
   unfolding advance_from
-  plain_by k n s slots f more (Ordinary u) e = rw (e, advance_from) (plain_moves k n s slots f more u e)
-  plain_by k n s slots f more (Return v) e = rw (e, advance_from) (plain_stays (suc k) n s slots f (Return v) e)
-  plain_by k n s slots f more Throw e = rw (e, advance_from) (plain_stays (suc k) n s slots f Throw e)
-  plain_by k n s slots f more (Refused m) e = rw (e, advance_from) (plain_stays (suc k) n s slots f (Refused m) e)
+  plain_by k n s slots f more (Ok u) e = rw (e, advance_from) (plain_moves k n s slots f more u e)
+  plain_by k n s slots f more (Err (Return v)) e = rw (e, advance_from) (plain_stays (suc k) n s slots f (Err (Return v)) e)
+  plain_by k n s slots f more (Err Throw) e = rw (e, advance_from) (plain_stays (suc k) n s slots f (Err Throw) e)
+  plain_by k n s slots f more (Err (Refused m)) e = rw (e, advance_from) (plain_stays (suc k) n s slots f (Err (Refused m)) e)
 
-  pub plain_steps : (k n : ℕ) (s : State) (slots : List ℕ) → frame_check l s (length slots) ≡ passed tt → Plain l k n s slots (advance_from (bare l) k n s slots)
+  pub plain_steps : (k n : ℕ) (s : State) (slots : List ℕ) → frame_check l s (length slots) ≡ Ok tt → Plain l k n s slots (advance_from (bare l) k n s slots)
   unfolding advance_from
   plain_steps zero n s slots f = plain_stays zero n s slots f (decide_of (bare l) s slots) refl
   plain_steps (suc k) n s slots f = plain_by k n s slots f (λ t after g. plain_steps k (suc n) t after g) (decide_of (bare l) s slots) refl

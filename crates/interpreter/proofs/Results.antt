@@ -4,7 +4,6 @@ use Prim.Native.Nat.{ℕ}
 use mathlib.Core.Path.{◌≡◌, refl, ap}
 use mathlib.Core.Bool.{Bool, true, false, ◌||◌, cond}
 use mathlib.Core.List.{List, [], ◌∷◌}
-use mathlib.Core.Option.{some}
 use lib.Dec.{eqb}
 use lib.IntN.{ℤ}
 use lib.ListN.{take}
@@ -15,13 +14,14 @@ use Rattle.rules.specs.Instructions.{instructions, row_of}
 use Rattle.rules.proofs.Rows.{every_row_lem, of_row, works}
 use Rattle.instructions.specs.Table.{shared_of}
 use Rattle.interpreter.specs.Stages.{stores_to}
+use Rattle.std.specs.Prelude.{Some}
 
 -- ---- where the words lie
 
 abbrev pub source_of : ℕ → Source
 source_of op = cond (eqb op 18 || eqb op 20) pool (cond (eqb op 21 || eqb op 22 || eqb op 132) local stack)
 
-pub row_reads : (n : ℕ) (r : Row) → row_of n ≡ some r → r.rule.reads ≡ source_of (shared_of r)
+pub row_reads : (n : ℕ) (r : Row) → row_of n ≡ Some r → r.rule.reads ≡ source_of (shared_of r)
 unfolding instructions
 row_reads n r e = of_row (λ q. q.rule.reads) (λ q. source_of (shared_of q)) (row_of n) r (every_row_lem (λ q. q.rule.reads) (λ q. source_of (shared_of q)) refl n) e
 
@@ -30,7 +30,7 @@ row_reads n r e = of_row (λ q. q.rule.reads) (λ q. source_of (shared_of q)) (r
 abbrev pub constant_kinds : ℕ → List Kind
 constant_kinds op = cond (eqb op 18) (int ∷ float ∷ []) (cond (eqb op 20) (long ∷ double ∷ []) [])
 
-pub row_constants : (n : ℕ) (r : Row) → row_of n ≡ some r → r.rule.constants ≡ constant_kinds (shared_of r)
+pub row_constants : (n : ℕ) (r : Row) → row_of n ≡ Some r → r.rule.constants ≡ constant_kinds (shared_of r)
 unfolding instructions
 row_constants n r e = of_row (λ q. q.rule.constants) (λ q. constant_kinds (shared_of q)) (row_of n) r (every_row_lem (λ q. q.rule.constants) (λ q. constant_kinds (shared_of q)) refl n) e
 
@@ -38,17 +38,17 @@ row_constants n r e = of_row (λ q. q.rule.constants) (λ q. constant_kinds (sha
 abbrev pub constant_given : ℕ → List Kind → List Kind
 constant_given op ks = cond (eqb op 18) (int ∷ []) (cond (eqb op 20) (long ∷ []) ks)
 
-pub row_given : (n : ℕ) (r : Row) → row_of n ≡ some r → r.rule.gives ≡ constant_given (shared_of r) r.rule.gives
+pub row_given : (n : ℕ) (r : Row) → row_of n ≡ Some r → r.rule.gives ≡ constant_given (shared_of r) r.rule.gives
 unfolding instructions
 row_given n r e = of_row (λ q. q.rule.gives) (λ q. constant_given (shared_of q) q.rule.gives) (row_of n) r (every_row_lem (λ q. q.rule.gives) (λ q. constant_given (shared_of q) q.rule.gives) refl n) e
 
 -- ---- the switches
 
-pub row_table : (n : ℕ) (r : Row) → row_of n ≡ some r → shared_of r ≡ 170 → r.format ≡ table
+pub row_table : (n : ℕ) (r : Row) → row_of n ≡ Some r → shared_of r ≡ 170 → r.format ≡ table
 unfolding instructions
 row_table n r e s = rw s at (of_row (λ q. cond (eqb (shared_of q) 170) q.format table) (λ q. table) (row_of n) r (every_row_lem (λ q. cond (eqb (shared_of q) 170) q.format table) (λ q. table) refl n) e)
 
-pub row_pairs : (n : ℕ) (r : Row) → row_of n ≡ some r → shared_of r ≡ 171 → r.format ≡ pairs
+pub row_pairs : (n : ℕ) (r : Row) → row_of n ≡ Some r → shared_of r ≡ 171 → r.format ≡ pairs
 unfolding instructions
 row_pairs n r e s = rw s at (of_row (λ q. cond (eqb (shared_of q) 171) q.format pairs) (λ q. pairs) (row_of n) r (every_row_lem (λ q. cond (eqb (shared_of q) 171) q.format pairs) (λ q. pairs) refl n) e)
 
@@ -70,7 +70,7 @@ row_stores r o a b c d = is_store (does_four r o a b c d)
 opcode_stores : Row → Operand → ℕ → ℕ → ℕ → ℕ → Bool
 opcode_stores r o a b c d = stores_to (shared_of r)
 
-pub row_stores_lem : (n : ℕ) (r : Row) → row_of n ≡ some r → (o : Operand) (a b c d : ℕ) → is_store (does_four r o a b c d) ≡ stores_to (shared_of r)
+pub row_stores_lem : (n : ℕ) (r : Row) → row_of n ≡ Some r → (o : Operand) (a b c d : ℕ) → is_store (does_four r o a b c d) ≡ stores_to (shared_of r)
 unfolding instructions row_stores opcode_stores
 row_stores_lem n r e o a b c d =
     ap (λ (f : Operand → ℕ → ℕ → ℕ → ℕ → Bool). f o a b c d) (of_row row_stores opcode_stores (row_of n) r (every_row_lem row_stores opcode_stores refl n) e)
@@ -92,7 +92,7 @@ row_offset r o a b c d = offset_by o.constant (does_four r o a b c d)
 opcode_offset : Row → Operand → ℕ → ℕ → ℕ → ℕ → ℤ
 opcode_offset r o a b c d = offset_of (shared_of r) o a
 
-pub row_offset_lem : (n : ℕ) (r : Row) → row_of n ≡ some r → (o : Operand) (a b c d : ℕ) → offset_by o.constant (does_four r o a b c d) ≡ offset_of (shared_of r) o a
+pub row_offset_lem : (n : ℕ) (r : Row) → row_of n ≡ Some r → (o : Operand) (a b c d : ℕ) → offset_by o.constant (does_four r o a b c d) ≡ offset_of (shared_of r) o a
 unfolding instructions row_offset opcode_offset
 row_offset_lem n r e o a b c d =
     ap (λ (f : Operand → ℕ → ℕ → ℕ → ℕ → ℤ). f o a b c d) (of_row row_offset opcode_offset (row_of n) r (every_row_lem row_offset opcode_offset refl n) e)

@@ -8,8 +8,8 @@ use lib.Dec.{eqb}
 use lib.ListN.{length, take, drop, get_or, length-drop}
 use lib.Seq.{length-take-le}
 use Rattle.values.specs.Kinds.{Kind, int, long, float, double, places, places_of}
-use Rattle.rules.specs.declared.State.{State}
-use Rattle.rules.specs.Check.{Check, passed, refused, ◌else◌}
+use Rattle.rules.specs.declared.states.State.{State}
+use Rattle.rules.specs.Check.{Check, ◌else◌}
 use Rattle.rules.specs.Forms.{Rule, Source, stack, local, pool}
 use Rattle.rules.specs.Instructions.{row_of}
 use Rattle.rules.specs.Fetch.{Instruction, fetched}
@@ -30,6 +30,7 @@ use Rattle.interpreter.proofs.Results.{source_of, row_reads, constant_kinds, row
 use Rattle.interpreter.proofs.FewWords.{few_of_first}
 use Rattle.interpreter.proofs.Constants.{constant_within}
 use Rattle.interpreter.proofs.Decision.{located_at, shared_is, from_words}
+use Rattle.std.specs.Prelude.{Ok, Err}
 
 -- one word or two, by their words
 one_or_two : (ws : List ℕ) (n : ℕ) → length ws ≡ n → n ≤ 2 → ws ≡ take n (get_or ws 0 0 ∷ get_or ws 1 0 ∷ 0 ∷ 0 ∷ [])
@@ -38,7 +39,7 @@ one_or_two (a ∷ []) n e h = rw (sym e)
 one_or_two (a ∷ b ∷ []) n e h = rw (sym e)
 one_or_two (a ∷ b ∷ c ∷ ws) n e h = absurd (omega arith)
 
-module _ (l : Method) (bare : l.handlers ≡ []) (s : State) (slots : List ℕ) (passes : frame_check l s (length slots) ≡ passed tt) (i : Instruction) (at : fetched l.code s.pc ≡ passed i) (first depth : ℕ) (st : Stands l s i first depth) where
+module _ (l : Method) (bare : l.handlers ≡ []) (s : State) (slots : List ℕ) (passes : frame_check l s (length slots) ≡ Ok tt) (i : Instruction) (at : fetched l.code s.pc ≡ Ok i) (first depth : ℕ) (st : Stands l s i first depth) where
   sound : Sound l.code s.pc i
   sound = fetched_sound l.code s.pc i at
 
@@ -54,7 +55,7 @@ module _ (l : Method) (bare : l.handlers ≡ []) (s : State) (slots : List ℕ) 
     no_constant : i.rule.constants ≡ []
     no_constant = ap (λ (r : Rule). r.constants) sound.ruled ∙ row_constants i.opcode sound.row sound.found ∙ none
 
-    needs_pass : needs_check l s i ≡ passed tt
+    needs_pass : needs_check l s i ≡ Ok tt
     unfolding ◌else◌
     needs_pass = st.asked ∙ rw no_constant refl
 
@@ -97,13 +98,13 @@ module _ (l : Method) (bare : l.handlers ≡ []) (s : State) (slots : List ℕ) 
 
         go : (x : Check (Unit {0})) → constant_check l.kinds i.operand.index (j ∷ k ∷ []) ≡ x
             → settled s.return_type (read_decision l.code s.pc (located_at s i first depth) (from_pool (found (take (places j) (drop i.operand.index l.words)) x))) ≡ decide_of l s slots
-        go (passed t) e =
+        go (Ok t) e =
             let f = framed l s (length slots) passes in
             let c = constant_within l.kinds i.operand.index j k alike (last_passed _ _ e) in
             let long : length (take (places j) (drop i.operand.index l.words)) ≡ places j = length-take-le (places j) (drop i.operand.index l.words) (omega (arith, length-drop i.operand.index l.words)) in
-            from_words l s i sound first depth st bare slots passes at (asks (passed t) e) _ _ _ _
+            from_words l s i sound first depth st bare slots passes at (asks (Ok t) e) _ _ _ _
             (rw (reads, its_places) (one_or_two (take (places j) (drop i.operand.index l.words)) (places j) long short))
-        go (refused n) e = sym (refused_by_needs l (length slots) s (frame s slots) passes i at n (asks (refused n) e))
+        go (Err n) e = sym (refused_by_needs l (length slots) s (frame s slots) passes i at n (asks (Err n) e))
 
   -- ---- THE LAW: a located instruction comes to what the rules decide
 

@@ -9,12 +9,10 @@ use types.Run.{OneOf}
 use denote.Enum.Declared.{tag_of}
 use lib.ListN.{length}
 use Rattle.values.specs.declared.Value.{Value}
-use Rattle.rules.specs.declared.State.{State}
-use Rattle.rules.specs.declared.Update.{Update}
-use Rattle.rules.specs.declared.Decision.{Decision}
-use Rattle.rules.specs.declared.Decision.TheVariants.{Ordinary, Return, Throw, Refused}
+use Rattle.rules.specs.declared.states.State.{State}
+use Rattle.rules.specs.declared.updates.Update.{Update}
 use Rattle.rules.specs.contracts.Decision.{the_type}
-use Rattle.rules.specs.Check.{Check, passed, refused, ◌>>=◌}
+use Rattle.rules.specs.Check.{Check, ◌>>=◌}
 use Rattle.rules.specs.Returns.{returned}
 use Rattle.rules.specs.Questions.{Method, frame_check}
 use Rattle.rules.specs.Step.{decision, decide_of, moved, written}
@@ -22,30 +20,33 @@ use Rattle.rules.proofs.Questions.{frame_passed}
 use Rattle.rules.proofs.Legal.{Legal, ordinary_legal, written_length, still_framed}
 use Rattle.return_types.specs.Settled.{settled}
 use Rattle.interpreter.specs.Advance.{Reached, stands, advance_from}
+use Rattle.std.specs.Prelude.{Ok, Err}
+use Rattle.rules.specs.declared.halts.Halt.TheVariants.{Return, Throw, Refused}
+use Rattle.rules.specs.Decisions.{Decision}
 
 -- a decision that is not ordinary, as `let .. else` leaves it
 abbrev pub Other : Decision → Type 0
 Other d = OneOf (1 ∷ 2 ∷ 3 ∷ []) (tag_of the_type d)
 
-pub not_other : (u : Update) → Other (Ordinary u) → ⊥
+pub not_other : (u : Update) → Other (Ok u) → ⊥
 not_other u h = ⊎_elim (λ z. omega arith) (⊎_elim (λ z. omega arith) (λ z. omega arith)) h
 
 -- and it stays another once question 32 is asked of a return
 pub settled_other : (t : ℕ) (d : Decision) → Other d → Other (settled t d)
 unfolding ◌>>=◌
-settled_other t (Ordinary u) h = h
-settled_other t (Return v) h = go (returned t v)
+settled_other t (Ok u) h = h
+settled_other t (Err (Return v)) h = go (returned t v)
   where
-    go : (x : Check Value) → Other (decision (x >>= λ r. passed (Return r)))
-    go (passed r) = inl refl
-    go (refused n) = inr (inr refl)
-settled_other t Throw h = h
-settled_other t (Refused n) h = h
+    go : (x : Check Value) → Other (decision (x >>= λ r. Ok (Err (Return r))))
+    go (Ok r) = inl refl
+    go (Err n) = inr (inr refl)
+settled_other t (Err Throw) h = h
+settled_other t (Err (Refused n)) h = h
 
 -- ---- steps, by the first decision
 
 module _ (l : Method) (n : ℕ) (s : State) (slots : List ℕ) where
-  pub advance_ordinary : (most : ℕ) (u : Update) → decide_of l s slots ≡ Ordinary u
+  pub advance_ordinary : (most : ℕ) (u : Update) → decide_of l s slots ≡ Ok u
       → advance_from l (suc most) n s slots ≡ advance_from l most (suc n) (moved s u.pc u.depth 0) (written u slots)
   unfolding advance_from
   advance_ordinary most u e = rw (e, advance_from)
@@ -53,10 +54,10 @@ module _ (l : Method) (n : ℕ) (s : State) (slots : List ℕ) where
   pub advance_other : (most : ℕ) (d : Decision) → decide_of l s slots ≡ d → Other d → advance_from l most n s slots ≡ stands s n slots d
   unfolding advance_from
   advance_other zero d e h = ap (stands s n slots) e
-  advance_other (suc most) (Ordinary u) e h = absurd (not_other u h)
-  advance_other (suc most) (Return v) e h = rw (e, advance_from)
-  advance_other (suc most) Throw e h = rw (e, advance_from)
-  advance_other (suc most) (Refused k) e h = rw (e, advance_from)
+  advance_other (suc most) (Ok u) e h = absurd (not_other u h)
+  advance_other (suc most) (Err (Return v)) e h = rw (e, advance_from)
+  advance_other (suc most) (Err Throw) e h = rw (e, advance_from)
+  advance_other (suc most) (Err (Refused k)) e h = rw (e, advance_from)
 
   pub advance_none : advance_from l zero n s slots ≡ stands s n slots (decide_of l s slots)
   unfolding advance_from
@@ -74,7 +75,7 @@ module _ (l : Method) (s : State) (slots : List ℕ) (r : Reached) (e : r ≡ ad
   pub slots_there : r.slots ≡ slots
   slots_there = ap (λ (x : Reached). x.slots) (e ∙ advance_none l 0 s slots)
 
-  pub legal_there : (u : Update) → r.decision ≡ Ordinary u → Legal l s (length r.slots) u
+  pub legal_there : (u : Update) → r.decision ≡ Ok u → Legal l s (length r.slots) u
   legal_there u h = ordinary_legal l s r.slots u (ap (decide_of l s) slots_there ∙ sym decided_there ∙ h)
 
 -- ---- the loop
@@ -83,11 +84,11 @@ module _ (l : Method) (s : State) (slots : List ℕ) (r : Reached) (e : r ≡ ad
 pub record Going (l : Method) (slots₀ : List ℕ) (taken most : ℕ) (s₀ : State) (slots : List ℕ) (s : State) (n : ℕ) : Type 0 where
   pub upto : n ≤ most
   pub long : length slots ≡ length slots₀
-  pub framed : frame_check l s (length slots) ≡ passed tt
+  pub framed : frame_check l s (length slots) ≡ Ok tt
   pub rest : advance_from l (most - n) n s slots ≡ advance_from l (most - taken) taken s₀ slots₀
 
 module _ (l : Method) (slots₀ : List ℕ) (taken most : ℕ) (s₀ : State) (slots : List ℕ) (s : State) (n : ℕ) (g : Going l slots₀ taken most s₀ slots s n) where
-  pub turn : (n ≡ most → ⊥) → (u : Update) → decide_of l s slots ≡ Ordinary u → Going l slots₀ taken most s₀ (written u slots) (moved s u.pc u.depth 0) (n + 1)
+  pub turn : (n ≡ most → ⊥) → (u : Update) → decide_of l s slots ≡ Ok u → Going l slots₀ taken most s₀ (written u slots) (moved s u.pc u.depth 0) (n + 1)
   turn h u e =
       let legal = ordinary_legal l s slots u e in
       let same = written_length l s slots u legal in

@@ -1,10 +1,9 @@
 -- The step in the stages of the code, on an instruction that is decoded and placed: for the contracts of private functions, tied to the rules by
 -- proofs/Decision and proofs/Sources. Assumes nothing.
-use Rattle.std.specs.Prelude.{ℕ, ◌+◌, Bool, ◌||◌, cond, List, eqb, ℤ, pos, ◌+ℤ◌, get_or}
+use Rattle.std.specs.Prelude.{ℕ, ◌+◌, Bool, ◌||◌, cond, List, eqb, ℤ, pos, ◌+ℤ◌, get_or, Ok, Err}
 use Rattle.values.specs.Kinds.{int, long, float, double}
 use Rattle.values.specs.Words.{meaning}
-use Rattle.rules.specs.declared.State.{State}
-use Rattle.rules.specs.declared.Decision.{Decision}
+use Rattle.rules.specs.declared.states.State.{State}
 use Rattle.rules.specs.Questions.{Method}
 use Rattle.rules.specs.Step.{first_place, inside, thrown_at, decision}
 use Rattle.operands.specs.declared.jump.Target.{Target}
@@ -19,6 +18,8 @@ use Rattle.effects.specs.Effects.{effect_at}
 use Rattle.interpreter.specs.declared.reading.Four.{Four}
 use Rattle.interpreter.specs.declared.reading.Read.{Read}
 use Rattle.interpreter.specs.declared.finishing.Located.{Located}
+use Rattle.rules.specs.declared.halts.Halt.TheVariants.{Return, Throw, Refused}
+use Rattle.rules.specs.Decisions.{Decision}
 
 -- ---- the words that it works on
 
@@ -30,7 +31,7 @@ four_at slots at = four (get_or slots at 0) (get_or slots (at + 1) 0) (get_or sl
 
 abbrev pub from_pool : Constant → Read
 from_pool (Constant.Found low high) = Read.Words (four low high 0 0)
-from_pool (Constant.Refused n) = Read.Refused n
+from_pool (Constant.Err (Refused n)) = Read.Err (Refused n)
 
 -- by the shared opcode: a constant of the pool, the loads and IINC, and all others
 unfoldable pub read_of : List ℕ → List ℕ → List ℕ → ℕ → ℕ → ℕ → Read
@@ -66,13 +67,13 @@ no_words = record { w0 = 0; w1 = 0; w2 = 0; w3 = 0; w4 = 0; w5 = 0 }
 -- the place of a target, if it has one
 abbrev pub reach : Target → ℕ
 reach (Target.At n) = n
-reach (Target.Refused n) = 0
+reach (Target.Err (Refused n)) = 0
 
 -- by the answer to question 10
 unfoldable pub ordinary_to : Target → ℕ → ℕ → ℕ → Six → Decision
 ordinary_to (Target.At pc) depth first many w =
-    Decision.Ordinary (record { pc = pc; depth = depth; first = first_place first many; many = many; w0 = w.w0; w1 = w.w1; w2 = w.w2; w3 = w.w3; w4 = w.w4; w5 = w.w5 })
-ordinary_to (Target.Refused n) depth first many w = Decision.Refused n
+    Ok (record { pc = pc; depth = depth; first = first_place first many; many = many; w0 = w.w0; w1 = w.w1; w2 = w.w2; w3 = w.w3; w4 = w.w4; w5 = w.w5 })
+ordinary_to (Target.Err (Refused n)) depth first many w = Err (Refused n)
 
 -- by how much a branch that is taken goes on: a switch by its key, any other by its constant
 unfoldable pub offset_at : List ℕ → ℕ → ℕ → ℕ → ℕ → ℤ
@@ -87,15 +88,15 @@ branch_of code pc i key taken =
 
 unfoldable pub finish_of : List ℕ → ℕ → Located → ℕ → Effect → Decision
 finish_of code pc i key (Effect.Words w) = ordinary_to (target_of (inside code (pos i.next))) i.depth i.first i.many w
-finish_of code pc i key Effect.Throw = Decision.Throw
+finish_of code pc i key Effect.(Err Throw) = (Err Throw)
 finish_of code pc i key (Effect.Branch taken) = branch_of code pc i key taken
-finish_of code pc i key (Effect.Return v) = Decision.Return v
+finish_of code pc i key (Effect.Err (Return v)) = Err (Return v)
 
 -- ---- both
 
 abbrev pub read_decision : List ℕ → ℕ → Located → Read → Decision
 read_decision code pc i (Read.Words w) = finish_of code pc i w.a (effect_at i.op i.constant w.a w.b w.c w.d)
-read_decision code pc i (Read.Refused n) = Decision.Refused n
+read_decision code pc i (Read.Err (Refused n)) = Err (Refused n)
 
 unfoldable pub located_decision : List ℕ → List ℕ → List ℕ → List ℕ → ℕ → Located → Decision
 located_decision code kinds words slots pc i = read_decision code pc i (read_of kinds words slots i.op i.index i.base)
@@ -103,7 +104,7 @@ located_decision code kinds words slots pc i = read_decision code pc i (read_of 
 -- ---- a throw, which a method without handlers does not catch, by the handlers
 
 abbrev pub caught : Method → State → Decision → Decision
-caught l s (Decision.Ordinary u) = Decision.Ordinary u
-caught l s (Decision.Return v) = Decision.Return v
-caught l s Decision.Throw = decision (thrown_at l s s.pc)
-caught l s (Decision.Refused n) = Decision.Refused n
+caught l s (Ok u) = Ok u
+caught l s (Err (Return v)) = Err (Return v)
+caught l s (Err Throw) = decision (thrown_at l s s.pc)
+caught l s (Err (Refused n)) = Err (Refused n)

@@ -1,8 +1,6 @@
 -- What steps and a run give, with the slots that they leave, as the rules have it. Assumes nothing.
-use Rattle.std.specs.Prelude.{ℕ, List}
-use Rattle.rules.specs.declared.State.{State}
-use Rattle.rules.specs.declared.Decision.{Decision}
-use Rattle.rules.specs.declared.End.{End}
+use Rattle.std.specs.Prelude.{ℕ, List, Ok, Err, Some, None}
+use Rattle.rules.specs.declared.states.State.{State}
 use Rattle.rules.specs.Step as step
 use Rattle.rules.specs.Run as run
 use Rattle.return_types.specs.Settled.{settled}
@@ -10,6 +8,8 @@ use Rattle.interpreter.specs.Advance as advance
 use Rattle.interpreter.specs.declared.advancing.Reached.{Reached}
 use Rattle.interpreter.specs.declared.stepping.Stepped.{Stepped}
 use Rattle.interpreter.specs.declared.running.Ran.{Ran}
+use Rattle.rules.specs.declared.halts.Halt.TheVariants.{Return, Throw, Refused}
+use Rattle.rules.specs.Decisions.{Decision, End}
 
 -- once question 32 is asked of the decision
 abbrev pub reached : Reached → List ℕ → advance.Reached
@@ -23,10 +23,10 @@ ran r slots = record { state = r.state; steps = r.steps; end = r.end; slots = sl
 
 -- for the private functions of the run: what a decision that is not ordinary ends it with, and where it stands then
 abbrev pub end_of : Decision → End
-end_of (Decision.Ordinary u) = End.Stopped
-end_of (Decision.Return v) = End.Return v
-end_of Decision.Throw = End.Throw
-end_of (Decision.Refused n) = End.Refused n
+end_of (Ok u) = None
+end_of (Err (Return v)) = Some (Return v)
+end_of (Err Throw) = (Some Throw)
+end_of (Err (Refused n)) = Some (Refused n)
 
 abbrev pub ended_at : State → ℕ → End → Ran
 ended_at s steps e = record { state = run.uncounted s; steps = steps; end = e }

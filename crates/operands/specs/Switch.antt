@@ -1,15 +1,14 @@
 -- A switch by the answers to its questions, the offset for a key, on any code, and which pair of a LOOKUPSWITCH has a key. Assumes nothing.
-use Rattle.std.specs.Prelude.{ℕ, suc, cond, List, [], ◌∷◌, ℤ, pos}
+use Rattle.std.specs.Prelude.{ℕ, suc, cond, List, [], ◌∷◌, ℤ, pos, Ok, Err}
 use Rattle.values.specs.Integers.{low, ◌=ᶻ◌, ◌≤ᶻ◌}
 use Rattle.rules.specs.Forms.{Operand, offset_for}
-use Rattle.rules.specs.Check.{Check, passed, refused}
+use Rattle.rules.specs.Check.{Check}
 use Rattle.rules.specs.Fetch.{Instruction, s32, aligned, low_key, high_key, table_operand, pair_count, pairs_operand}
 use Rattle.operands.specs.declared.switches.Switch.{Switch}
-use Rattle.operands.specs.declared.switches.Switch.TheVariants.{Accepted, Refused}
 
-unfoldable pub switch_of : Check Instruction → Switch
-switch_of (passed i) = Accepted i.size (low 32 i.operand.constant)
-switch_of (refused n) = Refused n
+unfoldable pub switch_of : Check Instruction → Check Switch
+switch_of (Ok i) = Ok (record { size = i.size; default = low 32 i.operand.constant })
+switch_of (Err r) = Err r
 
 abbrev pub offset_in : Operand → ℤ → ℤ
 offset_in o key = offset_for key o.constant o.pairs

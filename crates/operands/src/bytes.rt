@@ -10,7 +10,7 @@ use integers::{extended8, extended16};
 pub fn read_code_u8(code: &[u8], at: usize) -> u8
     ensures { result ≡ u8 code.now at }
 {
-    if at < code.len() { code[at] } else { 0 }
+    code.get(at).copied().unwrap_or(0)
 }
 
 // Two bytes, the high one first.
@@ -22,14 +22,7 @@ pub fn read_code_u16(code: &[u8], at: usize) -> u16
     }
     let high = read_code_u8(code, at);
     let low = read_code_u8(code, at + 1);
-    high as u16 * 256 + low as u16
-}
-
-// Four bytes as a word, the high ones first.
-fn word_of_bytes(a: u8, b: u8, c: u8, d: u8) -> u32
-    ensures { result ≡ (a * 256 + b) * 65536 + (c * 256 + d) }
-{
-    (a as u32 * 256 + b as u32) * 65536 + (c as u32 * 256 + d as u32)
+    u16::from_be_bytes([high, low])
 }
 
 // Four bytes, the high ones first: nearly always all are there.
@@ -40,11 +33,11 @@ pub fn read_code_u32(code: &[u8], at: usize) -> u32
         return 0;
     }
     if 4 <= code.len() - at {
-        return word_of_bytes(code[at], code[at + 1], code[at + 2], code[at + 3]);
+        return u32::from_be_bytes([code[at], code[at + 1], code[at + 2], code[at + 3]]);
     }
     let high = read_code_u16(code, at);
     let low = read_code_u16(code, at + 2);
-    high as u32 * 65536 + low as u32
+    u32::from(high) << 16 | u32::from(low)
 }
 
 // A byte with its sign, as an int.

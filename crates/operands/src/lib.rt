@@ -6,5 +6,5 @@ mod jump;
 mod switches;
 
 pub use bytes::{read_code_i8, read_code_i16, read_code_u8, read_code_u16, read_code_u32};
-pub use jump::{Target, inside, jump_relative};
+pub use jump::{inside, jump_relative};
 pub use switches::{Switch, lookup_offset, lookup_switch, table_offset, table_switch};

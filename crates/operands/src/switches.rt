@@ -9,12 +9,13 @@ ghost use Rattle.operands.specs.Switch.{switch_of, table_offset, lookup_offset, 
 
 use crate::bytes::read_code_u32;
 use integers::{icmpeq, icmple, icmplt};
+use rules::Refusal;
 
-// A switch with its length in bytes and its default offset, or the number of its refusal.
+// A switch: its length in bytes and its default offset.
 #[derive(Clone, Copy)]
-pub enum Switch {
-    Accepted { size: usize, default: u32 },
-    Refused(u32),
+pub struct Switch {
+    pub size: usize,
+    pub default: u32,
 }
 
 // Where the operands of a switch begin, after the padding: the next multiple of 4 after the opcode.
@@ -25,28 +26,26 @@ fn after_padding(pc: u32) -> usize
 }
 
 // TABLESWITCH: its fixed fields, the order of its lowest and highest key, and its whole table.
-pub fn table_switch(code: &[u8], pc: u32) -> Switch
+pub fn table_switch(code: &[u8], pc: u32) -> Result<Switch, Refusal>
     ensures { (row : Row) → result ≡ switch_of (table_check code.now pc row) }
 {
     let at = after_padding(pc);
     if code.len() < at + 12 {
-        return Switch::Refused(5);
+        return Err(Refusal::OperandBytes);
     }
     let low = read_code_u32(code, at + 4);
     let high = read_code_u32(code, at + 8);
     if !icmple(low, high) {
-        return Switch::Refused(6);
+        return Err(Refusal::SwitchKeys);
     }
     let span = std::num::wrapping_sub_u32(high, low) as usize;
     let end = at + 12 + 4 * (span + 1);
     if code.len() < end {
-        return Switch::Refused(5);
+        return Err(Refusal::OperandBytes);
     }
     let size = end - pc as usize;
-    Switch::Accepted {
-        size,
-        default: read_code_u32(code, at),
-    }
+    let default = read_code_u32(code, at);
+    Ok(Switch { size, default })
 }
 
 // TABLESWITCH: the offset for a key, the highest key's among them, or the default.
@@ -82,43 +81,39 @@ fn keys_rise(code: &[u8], at: usize, n: usize) -> bool
         return true;
     }
     let mut last = read_code_u32(code, at);
-    let mut i = 1;
-    while i < n {
+    for i in 1..n {
         let key = read_code_u32(code, at + 8 * i);
         if !in_order(last, key) {
             return false;
         }
         last = key;
-        i += 1;
     }
     true
 }
 
 // LOOKUPSWITCH: its fixed fields, its count of pairs, its whole table and the order of all its keys.
-pub fn lookup_switch(code: &[u8], pc: u32) -> Switch
+pub fn lookup_switch(code: &[u8], pc: u32) -> Result<Switch, Refusal>
     ensures { (row : Row) → result ≡ switch_of (lookup_check code.now pc row) }
 {
     let at = after_padding(pc);
     if code.len() < at + 8 {
-        return Switch::Refused(5);
+        return Err(Refusal::OperandBytes);
     }
     let count = read_code_u32(code, at + 4);
     if 0x8000_0000 <= count {
-        return Switch::Refused(6);
+        return Err(Refusal::SwitchKeys);
     }
     let n = count as usize;
     let end = at + 8 + 8 * n;
     if code.len() < end {
-        return Switch::Refused(5);
+        return Err(Refusal::OperandBytes);
     }
     if !keys_rise(code, at + 8, n) {
-        return Switch::Refused(6);
+        return Err(Refusal::SwitchKeys);
     }
     let size = end - pc as usize;
-    Switch::Accepted {
-        size,
-        default: read_code_u32(code, at),
-    }
+    let default = read_code_u32(code, at);
+    Ok(Switch { size, default })
 }
 
 // How many of n pairs from an offset on stand before the first that has the key: all n, where none has it.
@@ -126,12 +121,10 @@ fn key_index(code: &[u8], at: usize, n: usize, key: u32) -> usize
     requires { at + 8 * n < 2 ^ 64 }
     ensures { result ≡ key_index (meaning int key) (pairs_from code.now at n) }
 {
-    let mut i = 0;
-    while i < n {
+    for i in 0..n {
         if icmpeq(key, read_code_u32(code, at + 8 * i)) {
             return i;
         }
-        i += 1;
     }
     n
 }

@@ -6,6 +6,7 @@ pub mod Instructions
 pub mod OpcodePage
 pub mod Fetch
 pub mod Questions
+pub mod Lent
 pub mod Handlers
 pub mod Descriptor
 pub mod Returns

@@ -8,10 +8,10 @@ use lib.Dec.{eqb, leb, ltb}
 use lib.ListN.{length, take, drop}
 use borrow.Author.Tests.{leb-true}
 use Rattle.values.specs.Kinds.{places_of}
-use Rattle.rules.specs.declared.Mark.{Mark}
-use Rattle.rules.specs.declared.Mark.TheVariants.{DS}
-use Rattle.rules.specs.declared.Reading.{Reading}
-use Rattle.rules.specs.Check.{Check, passed, refused, ◌else◌, ◌>>◌, is_passed}
+use Rattle.rules.specs.declared.sheets.Mark.{Mark}
+use Rattle.rules.specs.declared.sheets.Mark.TheVariants.{DS}
+use Rattle.rules.specs.declared.sheets.Reading.{Reading}
+use Rattle.rules.specs.Check.{Check, ◌else◌, ◌>>◌, is_passed}
 use Rattle.rules.specs.Descriptor.{parameter_kinds, return_type, descriptor_check}
 use Rattle.rules.specs.Sheet.{descriptor_at, contents_check, memory_check}
 use Rattle.rules.proofs.Check.{first_passed, is_passed_lem}
@@ -20,22 +20,24 @@ use Rattle.descriptor.specs.Answers.{descriptor_answer}
 use Rattle.sheet.specs.declared.marks.Known.TheVariants as Known
 use Rattle.sheet.specs.declared.records.Record.TheVariants as Record
 use Rattle.sheet.specs.Records.{mark_answer, record_answer}
+use Rattle.std.specs.Prelude.{Ok, Err}
+use Rattle.rules.specs.declared.refusals.Refusal.{Refusal}
 
-pub mark_known : (x : Check Mark) (m : Mark) → Known.Mark m ≡ mark_answer x → x ≡ passed m
-mark_known (passed k) m e = cc
-mark_known (refused n) m e = let z : ◌≡◌ {A = ℕ} 0 1 = cc in absurd (omega arith)
+pub mark_known : (x : Check Mark) (m : Mark) → Known.Mark m ≡ mark_answer x → x ≡ Ok m
+mark_known (Ok k) m e = cc
+mark_known (Err n) m e = let z : ◌≡◌ {A = ℕ} 0 1 = cc in absurd (omega arith)
 
-pub mark_unknown : (x : Check Mark) (k : ℕ) → Known.Refused k ≡ mark_answer x → x ≡ refused k
-mark_unknown (passed m) k e = let z : ◌≡◌ {A = ℕ} 0 1 = cc in absurd (omega arith)
-mark_unknown (refused n) k e = cc
+pub mark_unknown : (x : Check Mark) (k : ℕ) → Known.Err k ≡ mark_answer x → x ≡ Err k
+mark_unknown (Ok m) k e = let z : ◌≡◌ {A = ℕ} 0 1 = cc in absurd (omega arith)
+mark_unknown (Err n) k e = cc
 
-pub record_read : (x : Check Reading) (p : Reading) → Record.Read p ≡ record_answer x → x ≡ passed p
-record_read (passed q) p e = cc
-record_read (refused n) p e = let z : ◌≡◌ {A = ℕ} 0 1 = cc in absurd (omega arith)
+pub record_read : (x : Check Reading) (p : Reading) → Record.Read p ≡ record_answer x → x ≡ Ok p
+record_read (Ok q) p e = cc
+record_read (Err n) p e = let z : ◌≡◌ {A = ℕ} 0 1 = cc in absurd (omega arith)
 
-pub record_refused : (x : Check Reading) (k : ℕ) → Record.Refused k ≡ record_answer x → x ≡ refused k
-record_refused (passed q) k e = let z : ◌≡◌ {A = ℕ} 0 1 = cc in absurd (omega arith)
-record_refused (refused n) k e = cc
+pub record_refused : (x : Check Reading) (k : ℕ) → Record.Err k ≡ record_answer x → x ≡ Err k
+record_refused (Ok q) k e = let z : ◌≡◌ {A = ℕ} 0 1 = cc in absurd (omega arith)
+record_refused (Err n) k e = cc
 
 -- ---- a DS record, by what its descriptor answers
 
@@ -45,42 +47,42 @@ part_is sheet start n m e = let k : start + n - start ≡ m = omega arith in rw 
 
 module _ (sheet : List ℕ) (at : ℕ) (p : Reading) where
   pub described : (d : List ℕ) (n t : ℕ) → Descriptor.Good n t ≡ descriptor_answer d (descriptor_check d) → d ≡ descriptor_at sheet at
-      → (contents_check sheet at p DS ≡ passed tt) × (n ≡ places_of (parameter_kinds (descriptor_at sheet at))) × (t ≡ return_type (descriptor_at sheet at))
+      → (contents_check sheet at p DS ≡ Ok tt) × (n ≡ places_of (parameter_kinds (descriptor_at sheet at))) × (t ≡ return_type (descriptor_at sheet at))
   unfolding contents_check
-  described d n t e same = subst (λ (b : List ℕ). (descriptor_check b ≡ passed tt) × (n ≡ places_of (parameter_kinds b)) × (t ≡ return_type b)) same (go (descriptor_check d) e)
+  described d n t e same = subst (λ (b : List ℕ). (descriptor_check b ≡ Ok tt) × (n ≡ places_of (parameter_kinds b)) × (t ≡ return_type b)) same (go (descriptor_check d) e)
     where
-      go : (x : Check (Unit {0})) → Descriptor.Good n t ≡ descriptor_answer d x → (x ≡ passed tt) × (n ≡ places_of (parameter_kinds d)) × (t ≡ return_type d)
-      go (passed y) e = (refl, cc, cc)
-      go (refused k) e = let z : ◌≡◌ {A = ℕ} 0 1 = cc in absurd (omega arith)
+      go : (x : Check (Unit {0})) → Descriptor.Good n t ≡ descriptor_answer d x → (x ≡ Ok tt) × (n ≡ places_of (parameter_kinds d)) × (t ≡ return_type d)
+      go (Ok y) e = (refl, cc, cc)
+      go (Err k) e = let z : ◌≡◌ {A = ℕ} 0 1 = cc in absurd (omega arith)
 
-  pub not_described : (d : List ℕ) (k : ℕ) → Descriptor.Refused k ≡ descriptor_answer d (descriptor_check d) → d ≡ descriptor_at sheet at → contents_check sheet at p DS ≡ refused k
+  pub not_described : (d : List ℕ) (k : ℕ) → Descriptor.Err k ≡ descriptor_answer d (descriptor_check d) → d ≡ descriptor_at sheet at → contents_check sheet at p DS ≡ Err k
   unfolding contents_check
-  not_described d k e same = subst (λ (b : List ℕ). descriptor_check b ≡ refused k) same (go (descriptor_check d) e)
+  not_described d k e same = subst (λ (b : List ℕ). descriptor_check b ≡ Err k) same (go (descriptor_check d) e)
     where
-      go : (x : Check (Unit {0})) → Descriptor.Refused k ≡ descriptor_answer d x → x ≡ refused k
-      go (passed y) e = let z : ◌≡◌ {A = ℕ} 0 1 = cc in absurd (omega arith)
-      go (refused n) e = cc
+      go : (x : Check (Unit {0})) → Descriptor.Err k ≡ descriptor_answer d x → x ≡ Err k
+      go (Ok y) e = let z : ◌≡◌ {A = ℕ} 0 1 = cc in absurd (omega arith)
+      go (Err n) e = cc
 
 -- ---- the memory
 
 module _ (p : Reading) (slots kinds words : List ℕ) where
-  pub not_enough : is_passed (memory_check p slots kinds words) ≡ false → memory_check p slots kinds words ≡ refused 26
+  pub not_enough : is_passed (memory_check p slots kinds words) ≡ false → memory_check p slots kinds words ≡ Err Refusal.LentMemory
   unfolding memory_check ◌else◌ ◌>>◌
   not_enough e = go (leb (p.max_locals + p.max_stack) (length slots)) (eqb p.used 0 || ltb p.used (length kinds)) (eqb (length kinds) (length words)) (leb (length kinds) 65536) e
     where
       of : Bool → Bool → Bool → Bool → Check (Unit {0})
-      of a b c d = (a else 26) >> (b else 26) >> (c else 26) >> (d else 26)
+      of a b c d = (a else Refusal.LentMemory) >> (b else Refusal.LentMemory) >> (c else Refusal.LentMemory) >> (d else Refusal.LentMemory)
 
-      go : (a b c d : Bool) → is_passed (of a b c d) ≡ false → of a b c d ≡ refused 26
+      go : (a b c d : Bool) → is_passed (of a b c d) ≡ false → of a b c d ≡ Err Refusal.LentMemory
       go false b c d e = refl
       go true false c d e = refl
       go true true false d e = refl
       go true true true false e = refl
       go true true true true e = let z : ◌≡◌ {A = ℕ} 0 1 = cc in absurd (omega arith)
 
-  pub enough : is_passed (memory_check p slots kinds words) ≡ true → memory_check p slots kinds words ≡ passed tt
+  pub enough : is_passed (memory_check p slots kinds words) ≡ true → memory_check p slots kinds words ≡ Ok tt
   enough e = is_passed_lem (memory_check p slots kinds words) e
 
-  pub slots_reach : memory_check p slots kinds words ≡ passed tt → p.max_locals + p.max_stack ≤ length slots
+  pub slots_reach : memory_check p slots kinds words ≡ Ok tt → p.max_locals + p.max_stack ≤ length slots
   unfolding memory_check
-  slots_reach e = leb-true _ _ (first_passed _ 26 _ e).0
+  slots_reach e = leb-true _ _ (first_passed _ Refusal.LentMemory _ e).0

@@ -1,6 +1,6 @@
 -- The parts that a load leaves, as the rules have them. Assumes nothing.
 use Rattle.std.specs.Prelude.{ℕ, List}
-use Rattle.rules.specs.declared.Loaded.{Loaded}
+use Rattle.rules.specs.declared.sheets.Loaded.{Loaded}
 use Rattle.rules.specs.Sheet.{Pool, AfterLoad}
 
 abbrev pub pool : List ℕ → List ℕ → Pool

@@ -1,6 +1,6 @@
 // What a record of each mark is asked, and what it adds to what has been read.
 ghost use Rattle.std.specs.Prelude.{◌≡◌, not, ◌||◌, ◌≤◌, length};
-ghost use Rattle.rules.specs.declared.Mark.TheVariants.{LM, DS, CD, KI, AR};
+ghost use Rattle.rules.specs.declared.sheets.Mark.TheVariants.{LM, DS, CD, KI, AR};
 ghost use Rattle.rules.specs.Check.{◌=ⁿ◌};
 ghost use Rattle.rules.specs.Answers.{checked};
 ghost use Rattle.rules.specs.Sheet.{record_end, last_index, is_described, contents_check, contents_read};

@@ -1,6 +1,6 @@
 // EX records: the handlers of the method (JVMS 4.7.3).
 ghost use Rattle.std.specs.Prelude.{◌≡◌, ◌+◌, ◌-◌, ◌≤◌, length};
-ghost use Rattle.rules.specs.declared.Mark.TheVariants.{EX};
+ghost use Rattle.rules.specs.declared.sheets.Mark.TheVariants.{EX};
 ghost use Rattle.rules.specs.Answers.{checked};
 ghost use Rattle.rules.specs.Sheet.{is_class_at, class_from, is_catch_type, contents_check, contents_read};
 ghost use Rattle.sheet.specs.Records.{record_answer};

@@ -7,17 +7,19 @@ use native.Mathlib.Omega.{arith}
 use lib.Dec.{ltb, leb}
 use lib.ListN.{length, get_or}
 use borrow.Author.Tests.{ltb-true, leb-true, leb-false, lt-leb, le-leb, lt-ltb, le-ltb}
-use Rattle.rules.specs.declared.Reading.{Reading}
-use Rattle.rules.specs.Check.{Check, passed, refused, ◌else◌, ◌>>◌, is_passed}
+use Rattle.rules.specs.declared.sheets.Reading.{Reading}
+use Rattle.rules.specs.Check.{Check, ◌else◌, ◌>>◌, is_passed}
 use Rattle.rules.specs.Step.{Stepped}
 use Rattle.rules.specs.Sheet.{handlers_length}
 use Rattle.rules.specs.History.{AfterPress}
 use Rattle.rules.proofs.Check.{first_passed, last_passed, last_asked, is_passed_lem}
 use Rattle.workbook.specs.StateWords.{state_size, lengths_check, sizes_check}
 use Rattle.workbook.specs.Calls.{unchanged, call_by, step_call_by, words_check}
+use Rattle.std.specs.Prelude.{Ok, Err}
+use Rattle.rules.specs.declared.refusals.Refusal.{Refusal}
 
 -- two questions whose no is 1
-two_no : (a b : Bool) → is_passed ((a else 1) >> (b else 1)) ≡ false → ((a else 1) >> (b else 1)) ≡ refused 1
+two_no : (a b : Bool) → is_passed ((a else Refusal.Lengths) >> (b else Refusal.Lengths)) ≡ false → ((a else Refusal.Lengths) >> (b else Refusal.Lengths)) ≡ Err Refusal.Lengths
 unfolding ◌else◌ ◌>>◌
 two_no false b e = refl
 two_no true false e = refl
@@ -34,15 +36,15 @@ module _ (state answer : List ℕ) (n : ℕ) where
   unfolding lengths_check ◌else◌ ◌>>◌
   long_state h = simp (le-leb _ _ h) (last_asked _ 1)
 
-  pub lengths_no : is_passed (lengths_check state answer n) ≡ false → lengths_check state answer n ≡ refused 1
+  pub lengths_no : is_passed (lengths_check state answer n) ≡ false → lengths_check state answer n ≡ Err Refusal.Lengths
   unfolding lengths_check
   lengths_no e = two_no _ _ e
 
   pub lengths_yes : is_passed (lengths_check state answer n) ≡ true → (state_size ≤ length state) × (n ≤ length answer)
   unfolding lengths_check
   lengths_yes e =
-      let a = first_passed _ 1 _ (is_passed_lem (lengths_check state answer n) e) in
-      (leb-true _ _ a.0, leb-true _ _ (last_passed _ 1 a.1))
+      let a = first_passed _ Refusal.Lengths _ (is_passed_lem (lengths_check state answer n) e) in
+      (leb-true _ _ a.0, leb-true _ _ (last_passed _ Refusal.Lengths a.1))
 
 -- ---- question 26 of the words of a load
 
@@ -55,39 +57,39 @@ word_most n = go (leb n 4294967295) refl
     go false e = sym (le-ltb n (2 ^ 32) (omega (arith, leb-false n 4294967295 e)))
 
 module _ (state answer : List ℕ) (p : Reading) where
-  pub words_short : is_passed (lengths_check state answer 4) ≡ false → words_check state answer p ≡ refused 26
+  pub words_short : is_passed (lengths_check state answer 4) ≡ false → words_check state answer p ≡ Err Refusal.LentMemory
   unfolding lengths_check words_check ◌else◌ ◌>>◌
   words_short e = go (leb state_size (length state)) (leb 4 (length answer)) e
     where
-      go : (a b : Bool) → is_passed ((a else 1) >> (b else 1)) ≡ false → ((a else 26) >> (b else 26) >> (ltb (handlers_length p) (2 ^ 32) else 26)) ≡ refused 26
+      go : (a b : Bool) → is_passed ((a else Refusal.Lengths) >> (b else Refusal.Lengths)) ≡ false → ((a else Refusal.LentMemory) >> (b else Refusal.LentMemory) >> (ltb (handlers_length p) (2 ^ 32) else Refusal.LentMemory)) ≡ Err Refusal.LentMemory
       go false b h = refl
       go true false h = refl
       go true true h = let z : ◌≡◌ {A = ℕ} 0 1 = cc in absurd (omega arith)
 
-  pub words_long : is_passed (lengths_check state answer 4) ≡ true → words_check state answer p ≡ (ltb (handlers_length p) (2 ^ 32) else 26)
+  pub words_long : is_passed (lengths_check state answer 4) ≡ true → words_check state answer p ≡ (ltb (handlers_length p) (2 ^ 32) else Refusal.LentMemory)
   unfolding words_check ◌else◌ ◌>>◌
   words_long e = let (h, k) = lengths_yes state answer 4 e in simp (le-leb _ _ h, le-leb _ _ k)
 
-  pub words_no : is_passed (words_check state answer p) ≡ false → words_check state answer p ≡ refused 26
+  pub words_no : is_passed (words_check state answer p) ≡ false → words_check state answer p ≡ Err Refusal.LentMemory
   unfolding words_check ◌else◌ ◌>>◌
   words_no e = go (leb state_size (length state)) (leb 4 (length answer)) (ltb (handlers_length p) (2 ^ 32)) e
     where
-      go : (a b d : Bool) → is_passed ((a else 26) >> (b else 26) >> (d else 26)) ≡ false → ((a else 26) >> (b else 26) >> (d else 26)) ≡ refused 26
+      go : (a b d : Bool) → is_passed ((a else Refusal.LentMemory) >> (b else Refusal.LentMemory) >> (d else Refusal.LentMemory)) ≡ false → ((a else Refusal.LentMemory) >> (b else Refusal.LentMemory) >> (d else Refusal.LentMemory)) ≡ Err Refusal.LentMemory
       go false b d h = refl
       go true false d h = refl
       go true true false h = refl
       go true true true h = let z : ◌≡◌ {A = ℕ} 0 1 = cc in absurd (omega arith)
 
   -- so that a load which is refused here has a number above 0
-  pub words_above : (n : ℕ) → words_check state answer p ≡ refused n → 0 < n
+  pub words_above : (n : ℕ) → words_check state answer p ≡ Err n → 0 < n
   words_above n e = let same = words_no (ap is_passed e) in let k : n ≡ 26 = cc in omega arith
 
-  pub words_yes : words_check state answer p ≡ passed tt → (state_size ≤ length state) × (4 ≤ length answer) × (handlers_length p < 2 ^ 32)
+  pub words_yes : words_check state answer p ≡ Ok tt → (state_size ≤ length state) × (4 ≤ length answer) × (handlers_length p < 2 ^ 32)
   unfolding words_check
   words_yes e =
-      let a = first_passed _ 26 _ e in
-      let b = first_passed _ 26 _ a.1 in
-      (leb-true _ _ a.0, leb-true _ _ b.0, ltb-true _ _ (last_passed _ 26 b.1))
+      let a = first_passed _ Refusal.LentMemory _ e in
+      let b = first_passed _ Refusal.LentMemory _ a.1 in
+      (leb-true _ _ a.0, leb-true _ _ b.0, ltb-true _ _ (last_passed _ Refusal.LentMemory b.1))
 
 -- ---- the sizes
 
@@ -100,41 +102,41 @@ module _ (ws : List ℕ) where
   unfolding sizes_check ◌else◌ ◌>>◌
   stack_fits h = simp (le-leb _ _ h) (last_asked _ 1)
 
-  pub sizes_no : is_passed (sizes_check ws) ≡ false → sizes_check ws ≡ refused 1
+  pub sizes_no : is_passed (sizes_check ws) ≡ false → sizes_check ws ≡ Err Refusal.Lengths
   unfolding sizes_check
   sizes_no e = two_no _ _ e
 
   pub sizes_yes : is_passed (sizes_check ws) ≡ true → (get_or ws 0 0 ≤ 65535) × (get_or ws 1 0 ≤ 65535)
   unfolding sizes_check
   sizes_yes e =
-      let a = first_passed _ 1 _ (is_passed_lem (sizes_check ws) e) in
-      (leb-true _ _ a.0, leb-true _ _ (last_passed _ 1 a.1))
+      let a = first_passed _ Refusal.Lengths _ (is_passed_lem (sizes_check ws) e) in
+      (leb-true _ _ a.0, leb-true _ _ (last_passed _ Refusal.Lengths a.1))
 
 -- what passes them
-pub lengths_pass : (state answer : List ℕ) (n : ℕ) → state_size ≤ length state → n ≤ length answer → lengths_check state answer n ≡ passed tt
+pub lengths_pass : (state answer : List ℕ) (n : ℕ) → state_size ≤ length state → n ≤ length answer → lengths_check state answer n ≡ Ok tt
 unfolding lengths_check ◌else◌ ◌>>◌
 lengths_pass state answer n h k = simp (le-leb _ _ h, le-leb _ _ k)
 
-pub sizes_pass : (ws : List ℕ) → get_or ws 0 0 ≤ 65535 → get_or ws 1 0 ≤ 65535 → sizes_check ws ≡ passed tt
+pub sizes_pass : (ws : List ℕ) → get_or ws 0 0 ≤ 65535 → get_or ws 1 0 ≤ 65535 → sizes_check ws ≡ Ok tt
 unfolding sizes_check ◌else◌ ◌>>◌
 sizes_pass ws h k = simp (le-leb _ _ h, le-leb _ _ k)
 
 -- ---- a call
 
 module _ (slots log state answer : List ℕ) (o : AfterPress) (x y : Check (Unit {0})) where
-  pub first_no : x ≡ refused 1 → unchanged slots log state answer 1 ≡ call_by slots log state answer o (x >> y)
+  pub first_no : x ≡ Err Refusal.Lengths → unchanged slots log state answer 1 ≡ call_by slots log state answer o (x >> y)
   unfolding ◌>>◌
   first_no e = rw e
 
-  pub second_no : x ≡ passed tt → y ≡ refused 1 → unchanged slots log state answer 1 ≡ call_by slots log state answer o (x >> y)
+  pub second_no : x ≡ Ok tt → y ≡ Err Refusal.Lengths → unchanged slots log state answer 1 ≡ call_by slots log state answer o (x >> y)
   unfolding ◌>>◌
   second_no e f = rw (e, f)
 
 module _ (slots state answer : List ℕ) (r : Stepped) (x y : Check (Unit {0})) where
-  pub no_step : x ≡ refused 1 → unchanged slots [] state answer 1 ≡ step_call_by slots state answer r (x >> y)
+  pub no_step : x ≡ Err Refusal.Lengths → unchanged slots [] state answer 1 ≡ step_call_by slots state answer r (x >> y)
   unfolding ◌>>◌
   no_step e = rw e
 
-  pub no_step_second : x ≡ passed tt → y ≡ refused 1 → unchanged slots [] state answer 1 ≡ step_call_by slots state answer r (x >> y)
+  pub no_step_second : x ≡ Ok tt → y ≡ Err Refusal.Lengths → unchanged slots [] state answer 1 ≡ step_call_by slots state answer r (x >> y)
   unfolding ◌>>◌
   no_step_second e f = rw (e, f)

@@ -8,14 +8,9 @@ use lib.Dec.{leb}
 use borrow.Author.Tests.{le-leb}
 use lib.ListN.{length, get_or, take, drop}
 use lib.Seq.{paste, length-paste}
-use Rattle.rules.specs.declared.State.{State}
-use Rattle.rules.specs.declared.Reading.{Reading}
-use Rattle.rules.specs.declared.Decision.{Decision}
-use Rattle.rules.specs.declared.Pressed.{Pressed}
-use Rattle.rules.specs.declared.Pressed.TheVariants.{Granted, Return, Throw, Refused}
-use Rattle.rules.specs.declared.End.TheVariants as End
-use Rattle.rules.specs.declared.Load.{Load}
-use Rattle.rules.specs.Check.{Check, passed, refused, ◌else◌, ◌>>=◌, ◌>>◌}
+use Rattle.rules.specs.declared.states.State.{State}
+use Rattle.rules.specs.declared.sheets.Reading.{Reading}
+use Rattle.rules.specs.Check.{Check, ◌else◌, ◌>>=◌, ◌>>◌}
 use Rattle.rules.specs.Fetch.{u8}
 use Rattle.rules.specs.Questions.{Method, method}
 use Rattle.rules.specs.Step.{Machine, core_rules, core_machine, frame, beyond, zeroed, decide_on}
@@ -35,6 +30,10 @@ use Rattle.workbook.specs.StateWords.{state_words, state_in, state_size, with_st
 use Rattle.workbook.specs.Calls.{Called, state_after, answer_after, forward_call, back_call, with_steps, run_call, presses_made, presses_call, LoadCalled, parts_of, words_check, load_by, load_for, load_call}
 use Rattle.workbook.specs.Demand3.{method_left, Calls, press_call, calls_of, answers_left, Demand3OfCalls, FromThisLoad, LeftByLoad, FromAnyLoadCall}
 use Rattle.workbook.proofs.Checks.{lengths_pass, words_yes, words_above, sizes_pass}
+use Rattle.std.specs.Prelude.{Ok, Err, None}
+use Rattle.rules.specs.declared.refusals.Refusal.{Refusal}
+use Rattle.rules.specs.declared.halts.Halt.TheVariants.{Return, Throw, Refused}
+use Rattle.rules.specs.Decisions.{Decision, Pressed}
 
 -- ---- a state, written and read again, is the state
 
@@ -47,10 +46,10 @@ long_again ws s h = length-paste ws 0 (state_words s) state_size h (omega arith)
 -- ---- a press keeps the sizes, and one that is not granted keeps the state
 
 abbrev IfNotGranted : Pressed → Type 0 → Type 0
-IfNotGranted Granted P = Unit {0}
-IfNotGranted (Return v) P = P
-IfNotGranted Throw P = P
-IfNotGranted (Refused n) P = P
+IfNotGranted (Ok tt) P = Unit {0}
+IfNotGranted (Err (Return v)) P = P
+IfNotGranted (Err Throw) P = P
+IfNotGranted (Err (Refused n)) P = P
 
 record Keeps (s : State) (o : AfterPress) : Type 0 where
   stack : o.state.max_stack ≡ s.max_stack
@@ -58,25 +57,25 @@ record Keeps (s : State) (o : AfterPress) : Type 0 where
   state : IfNotGranted o.answer (o.state ≡ s)
 
 module _ (s : State) (slots log : List ℕ) where
-  granted_keeps : (n : ℕ) (u : _) (b : Bool) → Keeps s (granted_by s slots log n u (b else 12))
+  granted_keeps : (n : ℕ) (u : _) (b : Bool) → Keeps s (granted_by s slots log n u (b else Refusal.LogFull))
   unfolding ◌else◌
   granted_keeps n u true = record { stack = refl; locals = refl; state = tt }
   granted_keeps n u false = record { stack = refl; locals = refl; state = refl }
 
   forward_keeps : (n : ℕ) (d : Decision) → Keeps s (forward_by s slots log n d)
-  forward_keeps n (Decision.Ordinary u) = granted_keeps n u (leb (10 * s.count + 10) (length log))
-  forward_keeps n (Decision.Return v) = record { stack = refl; locals = refl; state = refl }
-  forward_keeps n Decision.Throw = record { stack = refl; locals = refl; state = refl }
-  forward_keeps n (Decision.Refused k) = record { stack = refl; locals = refl; state = refl }
+  forward_keeps n (Ok u) = granted_keeps n u (leb (10 * s.count + 10) (length log))
+  forward_keeps n (Err (Return v)) = record { stack = refl; locals = refl; state = refl }
+  forward_keeps n (Err Throw) = record { stack = refl; locals = refl; state = refl }
+  forward_keeps n (Err (Refused k)) = record { stack = refl; locals = refl; state = refl }
 
   back_keeps : (x : Check (Unit {0})) → Keeps s (back_by s slots log x)
-  back_keeps (passed t) = record { stack = refl; locals = refl; state = tt }
-  back_keeps (refused k) = record { stack = refl; locals = refl; state = refl }
+  back_keeps (Ok t) = record { stack = refl; locals = refl; state = tt }
+  back_keeps (Err k) = record { stack = refl; locals = refl; state = refl }
 
   -- back gives no value
   back_valueless : (answer : List ℕ) (x : Check (Unit {0})) → answer ≡ answer_after answer (back_by s slots log x).answer
-  back_valueless answer (passed t) = refl
-  back_valueless answer (refused k) = refl
+  back_valueless answer (Ok t) = refl
+  back_valueless answer (Err k) = refl
 
 press_keeps : (x : Machine) (p : Press) (s : State) (slots log : List ℕ) → Keeps s (press_of x p s slots log)
 unfolding press_of forward_of back_of
@@ -91,7 +90,7 @@ record Held (state : List ℕ) : Type 0 where
   stack : get_or state 0 0 ≤ 65535
   locals : get_or state 1 0 ≤ 65535
 
-sizes_held : (state : List ℕ) → Held state → sizes_check state ≡ passed tt
+sizes_held : (state : List ℕ) → Held state → sizes_check state ≡ Ok tt
 sizes_held state h = sizes_pass state h.stack h.locals
 
 abbrev made_call : List ℕ → List ℕ → AfterPress → Called
@@ -112,10 +111,10 @@ state_after_lem : (state : List ℕ) (o : AfterPress) → Keeps (state_in state)
 state_after_lem state o k = go o.answer k.state
   where
     go : (a : Pressed) → IfNotGranted a (o.state ≡ state_in state) → state_in (state_after state o.state a) ≡ o.state
-    go Granted h = state_again state o.state
-    go (Return v) h = sym h
-    go Throw h = sym h
-    go (Refused n) h = sym h
+    go (Ok tt) h = state_again state o.state
+    go (Err (Return v)) h = sym h
+    go (Err Throw) h = sym h
+    go (Err (Refused n)) h = sym h
 
 held_after : (state : List ℕ) (o : AfterPress) → Held state → Keeps (state_in state) o → Held (state_after state o.state o.answer)
 held_after state o h k = go o.answer
@@ -124,16 +123,16 @@ held_after state o h k = go o.answer
     written = record { enough = omega (arith, long_again state o.state h.enough, h.enough); stack = omega (arith, k.stack, h.stack); locals = omega (arith, k.locals, h.locals) }
 
     go : (a : Pressed) → Held (state_after state o.state a)
-    go Granted = written
-    go (Return v) = h
-    go Throw = h
-    go (Refused n) = h
+    go (Ok tt) = written
+    go (Err (Return v)) = h
+    go (Err Throw) = h
+    go (Err (Refused n)) = h
 
 long_answer : (answer : List ℕ) (a : Pressed) → 4 ≤ length answer → 4 ≤ length (answer_after answer a)
-long_answer answer Granted h = h
-long_answer answer (Return v) h = omega (arith, length-paste answer 0 ((value_answer v).low ∷ (value_answer v).high ∷ []) 2 (omega arith) (omega arith))
-long_answer answer Throw h = h
-long_answer answer (Refused n) h = h
+long_answer answer (Ok tt) h = h
+long_answer answer (Err (Return v)) h = omega (arith, length-paste answer 0 ((value_answer v).low ∷ (value_answer v).high ∷ []) 2 (omega arith) (omega arith))
+long_answer answer (Err Throw) h = h
+long_answer answer (Err (Refused n)) h = h
 
 -- ---- a list of calls follows the walk
 
@@ -161,34 +160,34 @@ calls_follow x (p ∷ ps) slots log state answer h k =
 
 record LoadLeft (sheet slots kinds words state answer : List ℕ) : Type 0 where
   enough : state_size ≤ length state
-  accepted : (load_of sheet slots kinds words).loaded.answer ≡ Load.Accepted
+  accepted : (load_of sheet slots kinds words).loaded.answer ≡ Ok tt
   is : let m = load_of sheet slots kinds words in
       load_call sheet slots kinds words state answer
       ≡ record { number = 0; slots = m.slots; kinds = m.kinds; words = m.words; state = with_state state m.loaded.state; answer = paste answer 0 (parts_of m.loaded) 4 }
 
 module _ (sheet slots kinds words state answer : List ℕ) where
   load_numbered : (a : Load) → (load_by state answer (load_of sheet slots kinds words) a).number ≡ (load_answer a).number
-  load_numbered Load.Accepted = refl
-  load_numbered (Load.Refused k) = refl
+  load_numbered Ok tt = refl
+  load_numbered (Err k) = refl
 
-  left_by_answer : (p : Reading) → sheet_check sheet ≡ passed p → words_check state answer p ≡ passed tt → (a : Load) → (load_of sheet slots kinds words).loaded.answer ≡ a → (load_answer a).number ≡ 0
+  left_by_answer : (p : Reading) → sheet_check sheet ≡ Ok p → words_check state answer p ≡ Ok tt → (a : Load) → (load_of sheet slots kinds words).loaded.answer ≡ a → (load_answer a).number ≡ 0
       → LoadLeft sheet slots kinds words state answer
   unfolding load_call ◌>>=◌
-  left_by_answer p r w Load.Accepted e z = record { enough = (words_yes state answer p w).0; accepted = e; is = rw (r, w, e) }
-  left_by_answer p r w (Load.Refused k) e z = absurd (omega (arith, refused_above sheet slots kinds words k e))
+  left_by_answer p r w Ok tt e z = record { enough = (words_yes state answer p w).0; accepted = e; is = rw (r, w, e) }
+  left_by_answer p r w (Err k) e z = absurd (omega (arith, refused_above sheet slots kinds words k e))
 
-  left_by_words : (p : Reading) → sheet_check sheet ≡ passed p → (x : Check (Unit {0})) → words_check state answer p ≡ x → (load_for sheet slots kinds words state answer x).number ≡ 0
+  left_by_words : (p : Reading) → sheet_check sheet ≡ Ok p → (x : Check (Unit {0})) → words_check state answer p ≡ x → (load_for sheet slots kinds words state answer x).number ≡ 0
       → LoadLeft sheet slots kinds words state answer
-  left_by_words p r (passed t) w z = left_by_answer p r w (load_of sheet slots kinds words).loaded.answer refl (sym (load_numbered (load_of sheet slots kinds words).loaded.answer) ∙ z)
-  left_by_words p r (refused n) w z = absurd (omega (arith, words_above state answer p n w))
+  left_by_words p r (Ok t) w z = left_by_answer p r w (load_of sheet slots kinds words).loaded.answer refl (sym (load_numbered (load_of sheet slots kinds words).loaded.answer) ∙ z)
+  left_by_words p r (Err n) w z = absurd (omega (arith, words_above state answer p n w))
 
   load_left : (load_call sheet slots kinds words state answer).number ≡ 0 → LoadLeft sheet slots kinds words state answer
   unfolding load_call ◌>>=◌
   load_left h = go (sheet_check sheet) refl h
     where
       go : (x : Check Reading) → sheet_check sheet ≡ x → (load_for sheet slots kinds words state answer (x >>= λ p. words_check state answer p)).number ≡ 0 → LoadLeft sheet slots kinds words state answer
-      go (passed p) r z = left_by_words p r (words_check state answer p) refl z
-      go (refused n) r z = absurd (omega (arith, sheet_numbered sheet n r))
+      go (Ok p) r z = left_by_words p r (words_check state answer p) refl z
+      go (Err n) r z = absurd (omega (arith, sheet_numbered sheet n r))
 
 module _ (sheet slots kinds words state answer : List ℕ) (bytes : (i : ℕ) → u8 sheet i < 256) (left : LoadLeft sheet slots kinds words state answer) where
   said : Said sheet (load_of sheet slots kinds words).loaded
@@ -227,7 +226,7 @@ module _ (f : PlainWalk) (slots state answer : List ℕ) (presses : List Press) 
   abbrev with_end : State → List ℕ → Called
   with_end t after =
       record {
-        number = (end_answer End.Stopped).number;
+        number = (end_answer None).number;
         slots = frame f.state after ++ zeroed (scratch_from f f.first (plain_net f presses 0)) (beyond f.state slots);
         log = [];
         state = with_state state (uncounted t);

@@ -4,12 +4,9 @@ use mathlib.Core.Path.{◌≡◌, refl}
 use mathlib.Core.List.{List, []}
 use lib.ListN.{length}
 use borrow.Author.Tests.{le-leb, lt-leb}
-use Rattle.rules.specs.declared.State.{State}
-use Rattle.rules.specs.declared.Decision.{Decision}
-use Rattle.rules.specs.declared.Pressed.{Pressed}
+use Rattle.rules.specs.declared.states.State.{State}
 use Rattle.rules.specs.declared.Answer.{Answer}
-use Rattle.rules.specs.declared.End.{End}
-use Rattle.rules.specs.Check.{passed, refused, ◌else◌, ◌>>◌}
+use Rattle.rules.specs.Check.{◌else◌, ◌>>◌}
 use Rattle.rules.specs.Questions.{Method}
 use Rattle.rules.specs.Step.{Machine, step_of}
 use Rattle.rules.specs.Run.{run_of}
@@ -17,18 +14,22 @@ use Rattle.rules.specs.History.{pressed_by, forward_of, back_of}
 use Rattle.rules.specs.Answers.{decision_answer, end_answer, pressed_answer}
 use Rattle.workbook.specs.StateWords.{state_in, state_size, with_state, lengths_check, sizes_check}
 use Rattle.workbook.specs.Calls.{state_after, answer_after, unchanged, step_call, forward_call, back_call, with_steps, run_call}
+use Rattle.std.specs.Prelude.{Ok, Err}
+use Rattle.rules.specs.declared.refusals.Refusal.{Refusal}
+use Rattle.rules.specs.declared.halts.Halt.TheVariants.{Return, Throw, Refused}
+use Rattle.rules.specs.Decisions.{Decision, End, Pressed}
 
 -- a step has the number that it has as a press
 step_number : (d : Decision) → (pressed_answer (pressed_by d)).number ≡ (decision_answer d).number
-step_number (Decision.Ordinary u) = refl
-step_number (Decision.Return v) = refl
-step_number Decision.Throw = refl
-step_number (Decision.Refused n) = refl
+step_number (Ok u) = refl
+step_number (Err (Return v)) = refl
+step_number (Err Throw) = refl
+step_number (Err (Refused n)) = refl
 
 -- a press that is made: the library's function gave s and a and left the slots and the log, and s and a were left in the state and the answer
-module _ (x : Machine) (slots log state answer : List ℕ) (sizes : sizes_check state ≡ passed tt) (s : State) (a : Pressed) (number : ℕ) (after log' state' answer' : List ℕ)
+module _ (x : Machine) (slots log state answer : List ℕ) (sizes : sizes_check state ≡ Ok tt) (s : State) (a : Pressed) (number : ℕ) (after log' state' answer' : List ℕ)
     (numbered : number ≡ (pressed_answer a).number) (stated : state' ≡ state_after state s a) where
-  module _ (lengths : lengths_check state answer 4 ≡ passed tt) (answered : answer' ≡ answer_after answer a) where
+  module _ (lengths : lengths_check state answer 4 ≡ Ok tt) (answered : answer' ≡ answer_after answer a) where
     pub step_made : (d : Decision) → record { state = s; decision = d; slots = after } ≡ step_of x (state_in state) slots → a ≡ pressed_by d
         → record { number = number; slots = after; log = []; state = state'; answer = answer' } ≡ step_call x slots state answer
     unfolding step_call ◌>>◌
@@ -50,23 +51,23 @@ module _ (l : Method) (slots log state : List ℕ) where
   unfolding back_call ◌else◌ ◌>>◌
   back_short h = rw (lt-leb state_size (length state) h)
 
-  pub back_sizes : state_size ≤ length state → sizes_check state ≡ refused 1 → unchanged slots log state [] 1 ≡ back_call l slots log state
+  pub back_sizes : state_size ≤ length state → sizes_check state ≡ Err Refusal.Lengths → unchanged slots log state [] 1 ≡ back_call l slots log state
   unfolding back_call ◌else◌ ◌>>◌
   back_sizes h e = rw (le-leb state_size (length state) h, e)
 
 -- a run
 module _ (x : Machine) (slots state answer : List ℕ) (budget : ℕ) where
-  pub run_short : lengths_check state answer 4 ≡ refused 1 → unchanged slots [] state answer 1 ≡ run_call x slots state answer budget
+  pub run_short : lengths_check state answer 4 ≡ Err Refusal.Lengths → unchanged slots [] state answer 1 ≡ run_call x slots state answer budget
   unfolding run_call
   run_short e = rw e
 
-  module _ (lengths : lengths_check state answer 4 ≡ passed tt) where
-    pub run_sizes : sizes_check state ≡ refused 1 → (answer' : List ℕ) → answer' ≡ with_steps answer 0 0 0
+  module _ (lengths : lengths_check state answer 4 ≡ Ok tt) where
+    pub run_sizes : sizes_check state ≡ Err Refusal.Lengths → (answer' : List ℕ) → answer' ≡ with_steps answer 0 0 0
         → record { number = 1; slots = slots; log = []; state = state; answer = answer' } ≡ run_call x slots state answer budget
     unfolding run_call
     run_sizes e answer' f = rw (lengths, e, f)
 
-    pub run_made : sizes_check state ≡ passed tt → (s : State) (steps : ℕ) (end : End) (after state' answer' : List ℕ) (e : Answer)
+    pub run_made : sizes_check state ≡ Ok tt → (s : State) (steps : ℕ) (end : End) (after state' answer' : List ℕ) (e : Answer)
         → record { state = s; steps = steps; end = end; slots = after } ≡ run_of x budget (state_in state) slots → e ≡ end_answer end
         → state' ≡ with_state state s → answer' ≡ with_steps answer e.low e.high steps
         → record { number = e.number; slots = after; log = []; state = state'; answer = answer' } ≡ run_call x slots state answer budget

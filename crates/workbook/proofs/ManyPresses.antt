@@ -7,10 +7,8 @@ use lib.Dec.{leb, eqb}
 use lib.ListN.{length}
 use lib.Seq.{paste}
 use borrow.Author.Tests.{le-leb, lt-leb}
-use Rattle.rules.specs.declared.State.{State}
-use Rattle.rules.specs.declared.Decision.{Decision}
-use Rattle.rules.specs.declared.Pressed.TheVariants.{Refused}
-use Rattle.rules.specs.Check.{passed, refused, ◌else◌, ◌>>◌}
+use Rattle.rules.specs.declared.states.State.{State}
+use Rattle.rules.specs.Check.{◌else◌, ◌>>◌}
 use Rattle.rules.specs.Questions.{Method, frame_check}
 use Rattle.rules.specs.Step.{frame, Machine, core_machine}
 use Rattle.rules.specs.History.{kept}
@@ -22,25 +20,29 @@ use Rattle.rules.proofs.History.{forward_by_lem, back_frame, back_by_lem}
 use Rattle.rules.proofs.Replay.{replay_made}
 use Rattle.workbook.specs.StateWords.{state_in, state_size, with_state, sizes_check}
 use Rattle.workbook.specs.Calls.{unchanged, all_refused, presses_call}
+use Rattle.std.specs.Prelude.{Ok, Err}
+use Rattle.rules.specs.declared.refusals.Refusal.{Refusal}
+use Rattle.rules.specs.declared.halts.Halt.TheVariants.{Refused}
+use Rattle.rules.specs.Decisions.{Decision}
 
 -- ---- question 1 says no of a frame that its slots do not hold
 
-pub no_room : (l : Method) (s : State) (slots : List ℕ) → length slots < s.max_locals + s.max_stack → frame_check l s (length slots) ≡ refused 1
+pub no_room : (l : Method) (s : State) (slots : List ℕ) → length slots < s.max_locals + s.max_stack → frame_check l s (length slots) ≡ Err Refusal.Lengths
 unfolding frame_check ◌else◌ ◌>>◌
 no_room l s slots h = rw (lt-leb (s.max_locals + s.max_stack) (length slots) h) (go (eqb (length l.kinds) (length l.words)) (leb (length l.kinds) 65536))
   where
-    go : (a b : Bool) → ((a else 1) >> (b else 1) >> (false else 1)) ≡ refused 1
+    go : (a b : Bool) → ((a else Refusal.Lengths) >> (b else Refusal.Lengths) >> (false else Refusal.Lengths)) ≡ Err Refusal.Lengths
     go true true = refl
     go true false = refl
     go false b = refl
 
 -- ---- so every press is answered with 1, and nothing changes
 
-module _ (l : Method) (s : State) (slots : List ℕ) (no : frame_check l s (length slots) ≡ refused 1) where
-  press_refused : (p : Press) (log : List ℕ) → press_of (core_machine l) p s slots log ≡ kept s slots log 0 (Refused 1)
+module _ (l : Method) (s : State) (slots : List ℕ) (no : frame_check l s (length slots) ≡ Err Refusal.Lengths) where
+  press_refused : (p : Press) (log : List ℕ) → press_of (core_machine l) p s slots log ≡ kept s slots log 0 (Err (Refused Refusal.Lengths))
   unfolding press_of
   press_refused forward log =
-      forward_by_lem s slots log (core_machine l) (record { decision = Decision.Refused 1; scratch = 0 })
+      forward_by_lem s slots log (core_machine l) (record { decision = Err (Refused Refusal.Lengths); scratch = 0 })
       (ap (λ (d : Decision). record { decision = d; scratch = 0 }) (refused_by_frame l (length slots) s (frame s slots) 1 no))
   press_refused back log = back_by_lem l s slots log _ (back_frame l s slots log 1 no)
 
@@ -69,12 +71,12 @@ module _ (x : Machine) (slots log state bytes answers : List ℕ) where
     few_state h = rw (le-leb (3 * length bytes) (length answers) room, lt-leb state_size (length state) h)
 
     module _ (enough : state_size ≤ length state) where
-      pub no_state : sizes_check state ≡ refused 1 → (log' answers' : List ℕ) → log' ≡ log → answers' ≡ paste answers 0 (answers_words (all_refused bytes)) (3 * length bytes)
+      pub no_state : sizes_check state ≡ Err Refusal.Lengths → (log' answers' : List ℕ) → log' ≡ log → answers' ≡ paste answers 0 (answers_words (all_refused bytes)) (3 * length bytes)
           → record { number = 0; slots = slots; log = log'; state = state; answer = answers' } ≡ presses_call x slots log state bytes answers
       unfolding presses_call ◌else◌ ◌>>◌
       no_state e log' answers' f g = rw (le-leb (3 * length bytes) (length answers) room, le-leb state_size (length state) enough, e, f, g)
 
-      pub list_made : sizes_check state ≡ passed tt → (number : ℕ) (s : State) (after log' state' answers' : List ℕ)
+      pub list_made : sizes_check state ≡ Ok tt → (number : ℕ) (s : State) (after log' state' answers' : List ℕ)
           → record { number = number; state = s; slots = after; log = log'; answers = answers' } ≡ replay_of x bytes (state_in state) slots log answers → state' ≡ with_state state s
           → record { number = 0; slots = after; log = log'; state = state'; answer = answers' } ≡ presses_call x slots log state bytes answers
       unfolding presses_call ◌else◌ ◌>>◌

@@ -1,14 +1,11 @@
 -- The exported functions, each by the number that comes back and by every lent word that it leaves. Assumes nothing.
-use Rattle.std.specs.Prelude.{ℕ, ◌*◌, ◌/◌, ◌%◌, ◌^◌, List, [], ◌∷◌, length}
+use Rattle.std.specs.Prelude.{ℕ, ◌*◌, ◌/◌, ◌%◌, ◌^◌, List, [], ◌∷◌, length, Ok, Err}
 use Rattle.std.proofs.Math.Seq.{paste}
 use Rattle.values.specs.declared.Value.{Value}
-use Rattle.rules.specs.declared.State.{State}
-use Rattle.rules.specs.declared.Pressed.{Pressed}
-use Rattle.rules.specs.declared.Pressed.TheVariants.{Granted, Return, Throw, Refused}
-use Rattle.rules.specs.declared.Reading.{Reading}
-use Rattle.rules.specs.declared.Load.{Load}
-use Rattle.rules.specs.declared.Loaded.{Loaded}
-use Rattle.rules.specs.Check.{Check, passed, refused, ◌else◌, ◌>>=◌, ◌>>◌, ◌≤ⁿ◌, ◌<ⁿ◌}
+use Rattle.rules.specs.declared.states.State.{State}
+use Rattle.rules.specs.declared.sheets.Reading.{Reading}
+use Rattle.rules.specs.declared.sheets.Loaded.{Loaded}
+use Rattle.rules.specs.Check.{Check, ◌else◌, ◌>>=◌, ◌>>◌, ◌≤ⁿ◌, ◌<ⁿ◌}
 use Rattle.rules.specs.Questions.{Method}
 use Rattle.rules.specs.Step.{Machine, Stepped, step_of}
 use Rattle.rules.specs.Run.{Ran, run_of}
@@ -17,6 +14,9 @@ use Rattle.rules.specs.History.{AfterPress, pressed_by, forward_of, back_of}
 use Rattle.rules.specs.Answers.{value_answer, decision_answer, end_answer, pressed_answer, load_answer}
 use Rattle.rules.specs.Presses.{answers_words, answers_check, Replayed, replay_of}
 use Rattle.workbook.specs.StateWords.{state_in, state_size, with_state, lengths_check, sizes_check}
+use Rattle.rules.specs.declared.refusals.Refusal.{Refusal}
+use Rattle.rules.specs.declared.halts.Halt.TheVariants.{Return, Throw, Refused}
+use Rattle.rules.specs.Decisions.{Pressed}
 
 -- ---- step, forward and back
 
@@ -29,20 +29,20 @@ pub record Called : Type 0 where
 
 -- the state is written where the press is granted
 abbrev pub state_after : List ℕ → State → Pressed → List ℕ
-state_after ws s Granted = with_state ws s
-state_after ws s (Return v) = ws
-state_after ws s Throw = ws
-state_after ws s (Refused n) = ws
+state_after ws s (Ok tt) = with_state ws s
+state_after ws s (Err (Return v)) = ws
+state_after ws s (Err Throw) = ws
+state_after ws s (Err (Refused n)) = ws
 
 -- answer words 0 and 1 are written where there is a return
 abbrev pub with_value : List ℕ → Value → List ℕ
 with_value answer v = paste answer 0 ((value_answer v).low ∷ (value_answer v).high ∷ []) 2
 
 abbrev pub answer_after : List ℕ → Pressed → List ℕ
-answer_after answer Granted = answer
-answer_after answer (Return v) = with_value answer v
-answer_after answer Throw = answer
-answer_after answer (Refused n) = answer
+answer_after answer (Ok tt) = answer
+answer_after answer (Err (Return v)) = with_value answer v
+answer_after answer (Err Throw) = answer
+answer_after answer (Err (Refused n)) = answer
 
 abbrev pub called : List ℕ → List ℕ → AfterPress → Called
 called state answer o =
@@ -52,8 +52,8 @@ abbrev pub unchanged : List ℕ → List ℕ → List ℕ → List ℕ → ℕ �
 unchanged slots log state answer n = record { number = n; slots = slots; log = log; state = state; answer = answer }
 
 abbrev pub call_by : List ℕ → List ℕ → List ℕ → List ℕ → AfterPress → Check (Unit {0}) → Called
-call_by slots log state answer o (passed t) = called state answer o
-call_by slots log state answer o (refused n) = unchanged slots log state answer n
+call_by slots log state answer o (Ok t) = called state answer o
+call_by slots log state answer o (Err n) = unchanged slots log state answer n
 
 abbrev pub stepped : List ℕ → List ℕ → Stepped → Called
 stepped state answer r =
@@ -61,8 +61,8 @@ stepped state answer r =
     record { number = (decision_answer r.decision).number; slots = r.slots; log = []; state = state_after state r.state a; answer = answer_after answer a }
 
 abbrev pub step_call_by : List ℕ → List ℕ → List ℕ → Stepped → Check (Unit {0}) → Called
-step_call_by slots state answer r (passed t) = stepped state answer r
-step_call_by slots state answer r (refused n) = unchanged slots [] state answer n
+step_call_by slots state answer r (Ok t) = stepped state answer r
+step_call_by slots state answer r (Err n) = unchanged slots [] state answer n
 
 unfoldable pub step_call : Machine → List ℕ → List ℕ → List ℕ → Called
 step_call x slots state answer = step_call_by slots state answer (step_of x (state_in state) slots) (do
@@ -76,13 +76,13 @@ forward_call x slots log state answer = call_by slots log state answer (forward_
 
 -- back has no answer words
 abbrev pub back_by : List ℕ → List ℕ → List ℕ → AfterPress → Check (Unit {0}) → Called
-back_by slots log state o (passed t) =
+back_by slots log state o (Ok t) =
     record { number = (pressed_answer o.answer).number; slots = o.slots; log = o.log; state = state_after state o.state o.answer; answer = [] }
-back_by slots log state o (refused n) = unchanged slots log state [] n
+back_by slots log state o (Err n) = unchanged slots log state [] n
 
 unfoldable pub back_call : Method → List ℕ → List ℕ → List ℕ → Called
 back_call l slots log state = back_by slots log state (back_of l (state_in state) slots log) (do
-  state_size ≤ⁿ length state else 1
+  state_size ≤ⁿ length state else Refusal.Lengths
   sizes_check state)
 
 -- ---- run
@@ -98,12 +98,12 @@ ran_call state answer r =
 
 -- sizes that no state has are question 1's no: the four answer words are 0
 abbrev pub run_by : List ℕ → List ℕ → List ℕ → Ran → Check (Unit {0}) → Called
-run_by slots state answer r (passed t) = ran_call state answer r
-run_by slots state answer r (refused n) = unchanged slots [] state (with_steps answer 0 0 0) n
+run_by slots state answer r (Ok t) = ran_call state answer r
+run_by slots state answer r (Err n) = unchanged slots [] state (with_steps answer 0 0 0) n
 
 abbrev pub run_for : List ℕ → List ℕ → List ℕ → Ran → Check (Unit {0}) → Called
-run_for slots state answer r (passed t) = run_by slots state answer r (sizes_check state)
-run_for slots state answer r (refused n) = unchanged slots [] state answer n
+run_for slots state answer r (Ok t) = run_by slots state answer r (sizes_check state)
+run_for slots state answer r (Err n) = unchanged slots [] state answer n
 
 unfoldable pub run_call : Machine → List ℕ → List ℕ → List ℕ → ℕ → Called
 run_call x slots state answer budget = run_for slots state answer (run_of x budget (state_in state) slots) (lengths_check state answer 4)
@@ -113,25 +113,25 @@ run_call x slots state answer budget = run_for slots state answer (run_of x budg
 -- every press of a list is refused with 1
 unfoldable pub all_refused : List ℕ → List Pressed
 all_refused [] = []
-all_refused (b ∷ bs) = Refused 1 ∷ all_refused bs
+all_refused (b ∷ bs) = Err (Refused Refusal.Lengths) ∷ all_refused bs
 
 abbrev pub presses_made : List ℕ → Replayed → Called
 presses_made state r = record { number = 0; slots = r.slots; log = r.log; state = with_state state r.state; answer = r.answers }
 
 -- sizes that no state has are question 1's no, at each press
 abbrev pub presses_by : List ℕ → List ℕ → List ℕ → List ℕ → List ℕ → Replayed → Check (Unit {0}) → Called
-presses_by bytes slots log state answers r (passed t) = presses_made state r
-presses_by bytes slots log state answers r (refused n) = unchanged slots log state (paste answers 0 (answers_words (all_refused bytes)) (3 * length bytes)) 0
+presses_by bytes slots log state answers r (Ok t) = presses_made state r
+presses_by bytes slots log state answers r (Err n) = unchanged slots log state (paste answers 0 (answers_words (all_refused bytes)) (3 * length bytes)) 0
 
 abbrev pub presses_for : List ℕ → List ℕ → List ℕ → List ℕ → List ℕ → Replayed → Check (Unit {0}) → Called
-presses_for bytes slots log state answers r (passed t) = presses_by bytes slots log state answers r (sizes_check state)
-presses_for bytes slots log state answers r (refused n) = unchanged slots log state answers n
+presses_for bytes slots log state answers r (Ok t) = presses_by bytes slots log state answers r (sizes_check state)
+presses_for bytes slots log state answers r (Err n) = unchanged slots log state answers n
 
 unfoldable pub presses_call : Machine → List ℕ → List ℕ → List ℕ → List ℕ → List ℕ → Called
 presses_call x slots log state bytes answers =
     presses_for bytes slots log state answers (replay_of x bytes (state_in state) slots log answers) (do
       answers_check (length bytes) (length answers)
-      state_size ≤ⁿ length state else 1)
+      state_size ≤ⁿ length state else Refusal.Lengths)
 
 -- ---- load
 
@@ -149,28 +149,28 @@ parts_of x = x.code ∷ x.code_length ∷ x.handlers ∷ x.handlers_length ∷ [
 
 -- an accepted load writes the state and the parts
 abbrev pub load_by : List ℕ → List ℕ → AfterLoad → Load → LoadCalled
-load_by state answer m Load.Accepted =
+load_by state answer m Ok tt =
     record {
-      number = (load_answer Load.Accepted).number;
+      number = (load_answer Ok tt).number;
       slots = m.slots;
       kinds = m.kinds;
       words = m.words;
       state = with_state state m.loaded.state;
       answer = paste answer 0 (parts_of m.loaded) 4;
     }
-load_by state answer m (Load.Refused k) =
-    record { number = (load_answer (Load.Refused k)).number; slots = m.slots; kinds = m.kinds; words = m.words; state = state; answer = answer }
+load_by state answer m (Err k) =
+    record { number = (load_answer (Err k)).number; slots = m.slots; kinds = m.kinds; words = m.words; state = state; answer = answer }
 
 -- question 26 of the state and answer words, after the sheet's own: are there enough, and is the length of the handlers, which has no limit, a word?
 unfoldable pub words_check : List ℕ → List ℕ → Reading → Check (Unit {0})
 words_check state answer p = do
-  state_size ≤ⁿ length state else 26
-  4 ≤ⁿ length answer else 26
-  handlers_length p <ⁿ 2 ^ 32 else 26
+  state_size ≤ⁿ length state else Refusal.LentMemory
+  4 ≤ⁿ length answer else Refusal.LentMemory
+  handlers_length p <ⁿ 2 ^ 32 else Refusal.LentMemory
 
 abbrev pub load_for : List ℕ → List ℕ → List ℕ → List ℕ → List ℕ → List ℕ → Check (Unit {0}) → LoadCalled
-load_for sheet slots kinds words state answer (passed t) = let m = load_of sheet slots kinds words in load_by state answer m m.loaded.answer
-load_for sheet slots kinds words state answer (refused n) = record { number = n; slots = slots; kinds = kinds; words = words; state = state; answer = answer }
+load_for sheet slots kinds words state answer (Ok t) = let m = load_of sheet slots kinds words in load_by state answer m m.loaded.answer
+load_for sheet slots kinds words state answer (Err n) = record { number = n; slots = slots; kinds = kinds; words = words; state = state; answer = answer }
 
 unfoldable pub load_call : List ℕ → List ℕ → List ℕ → List ℕ → List ℕ → List ℕ → LoadCalled
 load_call sheet slots kinds words state answer = load_for sheet slots kinds words state answer (do

@@ -1,8 +1,6 @@
 -- DEMAND 3 at the boundary: of what workbook_load left, of a list of single calls of workbook_forward and workbook_back, of workbook_run, and of
 -- workbook_presses. Assumes nothing.
-use Rattle.std.specs.Prelude.{ℕ, ◌+◌, ◌*◌, ◌^◌, ◌<◌, ◌≤◌, ◌≡◌, List, [], ◌∷◌, ◌++◌, map, length, get_or, take, drop}
-use Rattle.rules.specs.declared.Pressed.{Pressed}
-use Rattle.rules.specs.declared.End.TheVariants as End
+use Rattle.std.specs.Prelude.{ℕ, ◌+◌, ◌*◌, ◌^◌, ◌<◌, ◌≤◌, ◌≡◌, List, [], ◌∷◌, ◌++◌, map, length, get_or, take, drop, None}
 use Rattle.rules.specs.Fetch.{u8}
 use Rattle.rules.specs.Questions.{Method, method}
 use Rattle.rules.specs.Step.{Machine, core_rules, core_machine, frame, beyond, zeroed}
@@ -13,6 +11,7 @@ use Rattle.rules.specs.Answers.{end_answer, pressed_answer}
 use Rattle.rules.specs.Presses.{plain_walk_in, Demand3InWords}
 use Rattle.workbook.specs.StateWords.{state_in, with_state}
 use Rattle.workbook.specs.Calls.{Called, answer_after, forward_call, back_call, with_steps, run_call, LoadCalled, load_call}
+use Rattle.rules.specs.Decisions.{Pressed}
 
 -- ---- what a load left
 
@@ -61,7 +60,7 @@ pub record Demand3OfCalls (f : PlainWalk) (slots state answer : List ℕ) (press
   pub ran : plain_net f presses 0 < 2 ^ 64
       → run_call f.machine slots state answer (plain_net f presses 0)
       ≡ record {
-        number = (end_answer End.Stopped).number;
+        number = (end_answer None).number;
         slots = frame f.state c.slots ++ zeroed (scratch_from f f.first (plain_net f presses 0)) (beyond f.state slots);
         log = [];
         state = with_state state (uncounted (state_in c.state));

@@ -1,8 +1,9 @@
 -- A state as seven lent words. Assumes nothing.
 use Rattle.std.specs.Prelude.{ℕ, ◌+◌, ◌*◌, ◌/◌, ◌%◌, ◌^◌, List, [], ◌∷◌, length, get_or}
 use Rattle.std.proofs.Math.Seq.{paste}
-use Rattle.rules.specs.declared.State.{State}
+use Rattle.rules.specs.declared.states.State.{State}
 use Rattle.rules.specs.Check.{Check, ◌else◌, ◌>>◌, ◌≤ⁿ◌}
+use Rattle.rules.specs.declared.refusals.Refusal.{Refusal}
 
 -- max_stack, max_locals, pc, depth, count's low word, count's high word, the return type
 abbrev pub state_words : State → List ℕ
@@ -29,11 +30,11 @@ with_state ws s = paste ws 0 (state_words s) state_size
 -- are there seven state words, and n answer words? 1
 unfoldable pub lengths_check : List ℕ → List ℕ → ℕ → Check (Unit {0})
 lengths_check state answer n = do
-  state_size ≤ⁿ length state else 1
-  n ≤ⁿ length answer else 1
+  state_size ≤ⁿ length state else Refusal.Lengths
+  n ≤ⁿ length answer else Refusal.Lengths
 
 -- a max_stack or max_locals above 65,535 is no state's: 1
 unfoldable pub sizes_check : List ℕ → Check (Unit {0})
 sizes_check ws = do
-  get_or ws 0 0 ≤ⁿ 65535 else 1
-  get_or ws 1 0 ≤ⁿ 65535 else 1
+  get_or ws 0 0 ≤ⁿ 65535 else Refusal.Lengths
+  get_or ws 1 0 ≤ⁿ 65535 else Refusal.Lengths

@@ -12,12 +12,12 @@ returns-then-kinds-at c = no_entry c.args.kinds.now c.args.words.now c.args.inde
 
 pub returns-then-kind-eq-CONSTANT_INTEGER : goal.returns-then-kind-eq-CONSTANT_INTEGER
 returns-then-kind-eq-CONSTANT_INTEGER c = let a = c.args in
-    rw c.word_at-low.ensures (one_word a.words.now a.index ∙ first_kind a.kinds.now a.words.now a.index int float refl c.if-kinds-at.false (ap (λ (t : ℕ). eqb t 3) (sym c.kind_at-kind.ensures) ∙ eq-eqb _ _ c.if-kind-eq-CONSTANT_INTEGER.true))
+    rw c.word_at-low.ensures (one_word a.words.now a.index ∙ first_kind a.kinds.now a.words.now a.index int float refl c.if-kinds-at.false (eq-eqb _ _ c.if-kind-eq-CONSTANT_INTEGER.true))
 
 pub returns-then-kind-eq-CONSTANT_FLOAT : goal.returns-then-kind-eq-CONSTANT_FLOAT
 returns-then-kind-eq-CONSTANT_FLOAT c = let a = c.args in
-    rw c.word_at-low.ensures (one_word a.words.now a.index ∙ second_kind a.kinds.now a.words.now a.index int float refl c.if-kinds-at.false (ap (λ (t : ℕ). eqb t 3) (sym c.kind_at-kind.ensures) ∙ ne_eqb _ _ c.if-kind-eq-CONSTANT_INTEGER.false) (ap (λ (t : ℕ). eqb t 4) (sym c.kind_at-kind.ensures) ∙ eq-eqb _ _ c.if-kind-eq-CONSTANT_FLOAT.true))
+    rw c.word_at-low.ensures (one_word a.words.now a.index ∙ second_kind a.kinds.now a.words.now a.index int float refl c.if-kinds-at.false (ne_eqb _ _ c.if-kind-eq-CONSTANT_INTEGER.false) (eq-eqb _ _ c.if-kind-eq-CONSTANT_FLOAT.true))
 
 pub returns : goal.returns
 returns c = let a = c.args in
-    no_kind a.kinds.now a.words.now a.index int float refl (ap (λ (t : ℕ). eqb t 3) (sym c.kind_at-kind.ensures) ∙ ne_eqb _ _ c.if-kind-eq-CONSTANT_INTEGER.false) (ap (λ (t : ℕ). eqb t 4) (sym c.kind_at-kind.ensures) ∙ ne_eqb _ _ c.if-kind-eq-CONSTANT_FLOAT.false)
+    no_kind a.kinds.now a.words.now a.index int float refl (ne_eqb _ _ c.if-kind-eq-CONSTANT_INTEGER.false) (ne_eqb _ _ c.if-kind-eq-CONSTANT_FLOAT.false)

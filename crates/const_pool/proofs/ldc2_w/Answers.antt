@@ -12,12 +12,12 @@ returns-then-kinds-at c = no_entry c.args.kinds.now c.args.words.now c.args.inde
 
 pub returns-then-kind-eq-CONSTANT_LONG : goal.returns-then-kind-eq-CONSTANT_LONG
 returns-then-kind-eq-CONSTANT_LONG c = let a = c.args in
-    rw (c.word_at-low.ensures, c.word_at-high.ensures) (two_words a.words.now a.index ∙ first_kind a.kinds.now a.words.now a.index long double refl c.if-kinds-at.false (ap (λ (t : ℕ). eqb t 5) (sym c.kind_at-kind.ensures) ∙ eq-eqb _ _ c.if-kind-eq-CONSTANT_LONG.true))
+    rw (c.word_at-low.ensures, c.word_at-high.ensures) (two_words a.words.now a.index ∙ first_kind a.kinds.now a.words.now a.index long double refl c.if-kinds-at.false (eq-eqb _ _ c.if-kind-eq-CONSTANT_LONG.true))
 
 pub returns-then-kind-eq-CONSTANT_DOUBLE : goal.returns-then-kind-eq-CONSTANT_DOUBLE
 returns-then-kind-eq-CONSTANT_DOUBLE c = let a = c.args in
-    rw (c.word_at-low.ensures, c.word_at-high.ensures) (two_words a.words.now a.index ∙ second_kind a.kinds.now a.words.now a.index long double refl c.if-kinds-at.false (ap (λ (t : ℕ). eqb t 5) (sym c.kind_at-kind.ensures) ∙ ne_eqb _ _ c.if-kind-eq-CONSTANT_LONG.false) (ap (λ (t : ℕ). eqb t 6) (sym c.kind_at-kind.ensures) ∙ eq-eqb _ _ c.if-kind-eq-CONSTANT_DOUBLE.true))
+    rw (c.word_at-low.ensures, c.word_at-high.ensures) (two_words a.words.now a.index ∙ second_kind a.kinds.now a.words.now a.index long double refl c.if-kinds-at.false (ne_eqb _ _ c.if-kind-eq-CONSTANT_LONG.false) (eq-eqb _ _ c.if-kind-eq-CONSTANT_DOUBLE.true))
 
 pub returns : goal.returns
 returns c = let a = c.args in
-    no_kind a.kinds.now a.words.now a.index long double refl (ap (λ (t : ℕ). eqb t 5) (sym c.kind_at-kind.ensures) ∙ ne_eqb _ _ c.if-kind-eq-CONSTANT_LONG.false) (ap (λ (t : ℕ). eqb t 6) (sym c.kind_at-kind.ensures) ∙ ne_eqb _ _ c.if-kind-eq-CONSTANT_DOUBLE.false)
+    no_kind a.kinds.now a.words.now a.index long double refl (ne_eqb _ _ c.if-kind-eq-CONSTANT_LONG.false) (ne_eqb _ _ c.if-kind-eq-CONSTANT_DOUBLE.false)

@@ -1,11 +1,11 @@
 -- `throw_at` meets its contract. Assumes nothing.
 use Prim.Native.Nat.{ℕ}
 use mathlib.Core.Path.{sym, ap, ◌∙◌}
-use mathlib.Core.Option.{Option}
 use Rattle.rules.specs.Step.{thrown_to, thrown_at, decision}
 use Rattle.rules.specs.Handlers.{handler_at}
 use Rattle.handlers.proofs.Answers.{found_none, found_some}
 use Rattle.handlers.proofs.catching.throw_at.Goals as goal
+use Rattle.std.specs.Prelude.{Option}
 
 pub returns-in-Nothing : goal.returns-in-Nothing
 unfolding thrown_at

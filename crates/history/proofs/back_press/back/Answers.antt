@@ -5,6 +5,8 @@ use mathlib.Core.List.{[]}
 use Rattle.rules.proofs.Answers.{row_passed, row_refused}
 use Rattle.rules.proofs.History.{back_by_lem, back_passed}
 use Rattle.history.proofs.back_press.back.Goals as goal
+use Rattle.std.specs.Prelude.{Err}
+use Rattle.rules.specs.declared.halts.Halt.TheVariants.{Refused}
 
 pub restore-state-requires : goal.restore-state-requires
 restore-state-requires c = let a = c.args in
@@ -14,7 +16,7 @@ restore-state-requires c = let a = c.args in
     record { count_nonzero = (b.some, b.reached); count_bound = b.few; count_in_bounds = b.within }
 
 pub returns-in-Refused : goal.returns-in-Refused
-returns-in-Refused c = λ handlers.
+returns-in-Err (Refused c) = λ handlers.
     let a = c.args in
     let l = method a.code.now a.kinds.now a.words.now handlers in
     sym (back_by_lem l a.s a.slots.now a.log.now _ (row_refused _ _ (sym c.in-Refused.is ∙ c.check_back-asked.ensures handlers)))

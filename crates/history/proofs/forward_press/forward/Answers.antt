@@ -6,6 +6,7 @@ use Rattle.interpreter.proofs.Steps.{settled_other, settled_there, legal_there}
 use Rattle.history.proofs.Forwards.{forward_there, forward_other}
 use borrow.Enum.Refused.{opened}
 use Rattle.history.proofs.forward_press.forward.Goals as goal
+use Rattle.std.specs.Prelude.{Ok}
 
 pub returns-in_default : goal.returns-in_default
 returns-in_default c = let a = c.args in
@@ -17,10 +18,10 @@ returns-in_default c = let a = c.args in
 pub grant-requires : goal.grant-requires
 grant-requires c = let a = c.args in
     let l = method a.code.now a.kinds.now a.words.now a.handlers.now in
-    let k = legal_there l a.s a.slots.now _ c.advance-reached.ensures _ (ap (settled _) c.in-Ordinary.is) in
+    let k = legal_there l a.s a.slots.now _ c.advance-reached.ensures _ (ap (settled _) c.in-Ok.is) in
     (k.few, k.within, k.frame_there.room)
 
 pub returns : goal.returns
 returns c = let a = c.args in
     let l = method a.code.now a.kinds.now a.words.now a.handlers.now in
-    c.grant.ensures ∙ forward_there l a.s a.slots.now a.log.now _ c.advance-reached.ensures _ (ap (settled _) c.in-Ordinary.is)
+    c.grant.ensures ∙ forward_there l a.s a.slots.now a.log.now _ c.advance-reached.ensures _ (ap (settled _) c.in-Ok.is)

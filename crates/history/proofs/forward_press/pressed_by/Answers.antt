@@ -1,8 +1,10 @@
 -- `pressed_by` meets its contract. Assumes nothing.
 use Rattle.history.proofs.forward_press.pressed_by.Goals as goal
+use Rattle.std.specs.Prelude.{Err}
+use Rattle.rules.specs.declared.halts.Halt.TheVariants.{Return, Refused}
 
 pub returns-in-Return : goal.returns-in-Return
-returns-in-Return c = simp c.in-Return.is
+returns-in-Err (Return c) = simp c.in-Return.is
 
 pub returns-in-Refused : goal.returns-in-Refused
-returns-in-Refused c = simp c.in-Refused.is
+returns-in-Err (Refused c) = simp c.in-Refused.is

@@ -9,6 +9,8 @@ use Rattle.interpreter.proofs.Answers.{by_frame}
 use Rattle.interpreter.proofs.Steps.{advance_other}
 use Rattle.interpreter.proofs.Plain.{bare_framed, without_handlers}
 use Rattle.interpreter.proofs.advancing.advance.Goals as goal
+use Rattle.std.specs.Prelude.{Err}
+use Rattle.rules.specs.declared.halts.Halt.TheVariants.{Refused}
 
 pub advance_plain-requires : goal.advance_plain-requires
 advance_plain-requires c = let a = c.args in
@@ -23,6 +25,6 @@ pub advance_framed-requires : goal.advance_framed-requires
 advance_framed-requires c = row_passed _ (sym c.in-Passed.is ∙ c.check_frame-asked.ensures _)
 
 pub returns-in-Refused : goal.returns-in-Refused
-returns-in-Refused c = let a = c.args in
+returns-in-Err (Refused c) = let a = c.args in
     let l = method a.code.now a.kinds.now a.words.now a.handlers.now in
     sym (advance_other l 0 a.s a.slots.now a.most _ (by_frame l a.s a.slots.now _ (sym c.in-Refused.is ∙ c.check_frame-asked.ensures _)) (inr (inr refl)))

@@ -4,8 +4,7 @@ use mathlib.Core.List.{List}
 use mathlib.Core.Path.{◌≡◌, refl, sym, ap, ◌∙◌}
 use native.Mathlib.Omega.{arith}
 use native.Mathlib.Nat.{sub-zero}
-use Rattle.rules.specs.declared.State.{State}
-use Rattle.rules.specs.declared.Decision.{Decision}
+use Rattle.rules.specs.declared.states.State.{State}
 use Rattle.rules.specs.Questions.{Method, method}
 use Rattle.rules.specs.Step.{decide_of}
 use Rattle.rules.proofs.Legal.{ordinary_legal}
@@ -17,6 +16,8 @@ use Rattle.interpreter.proofs.Steps.{Going, turn, ends_there, all_taken}
 use Rattle.interpreter.proofs.Plain.{bare, bare_framed, without_handlers, caught_settled, decide_caught, Plain, plain_steps, plain_going}
 use borrow.Enum.Refused.{opened}
 use Rattle.interpreter.proofs.advancing.advance_framed.Goals as goal
+use Rattle.std.specs.Prelude.{Ok}
+use Rattle.rules.specs.Decisions.{Decision}
 
 -- where plain steps ended: what was decided there by the handlers is what the rules decide, and the steps that are left lead where all of them lead
 module _ (l : Method) (slots₀ : List ℕ) (most : ℕ) (s₀ : State) (slots : List ℕ) (s : State) (n : ℕ) (g : Going l slots₀ 0 most s₀ slots s n) where
@@ -96,7 +97,7 @@ returns-then-steps-most c =
     let g = going l a.slots.now a.most a.s t.slots t.t t.steps t.invariant r p.ensures in
     let d = decides l a.slots.now a.most a.s t.slots t.t t.steps t.invariant r p.ensures p.result.decision c.ask_handlers-decision.result refl c.ask_handlers-decision.ensures in
     record {
-      slots_after = all_taken _ _ _ _ _ r.slots r.state r.steps g c.if-steps-most.true _ (sym d ∙ ap (settled _) c.in-Ordinary.is) ∙ rw (sub-zero a.most);
+      slots_after = all_taken _ _ _ _ _ r.slots r.state r.steps g c.if-steps-most.true _ (sym d ∙ ap (settled _) c.in-Ok.is) ∙ rw (sub-zero a.most);
       steps_le_most = g.upto;
     }
 
@@ -109,7 +110,7 @@ commit-requires c =
     let r = reached p.result p.new.slots in
     let g = going l a.slots.now a.most a.s t.slots t.t t.steps t.invariant r p.ensures in
     let d = decides l a.slots.now a.most a.s t.slots t.t t.steps t.invariant r p.ensures p.result.decision c.ask_handlers-decision.result refl c.ask_handlers-decision.ensures in
-    let k = ordinary_legal _ r.state r.slots _ (sym d ∙ ap (settled _) c.in-Ordinary.is) in
+    let k = ordinary_legal _ r.state r.slots _ (sym d ∙ ap (settled _) c.in-Ok.is) in
     (k.few, k.within, k.frame_there.room)
 
 pub overflow_add-steps : goal.overflow_add-steps
@@ -141,4 +142,4 @@ loop-u-preserved c =
     let r = reached p.result p.new.slots in
     let g = going l a.slots.now a.most a.s t.slots t.t t.steps t.invariant r p.ensures in
     let d = decides l a.slots.now a.most a.s t.slots t.t t.steps t.invariant r p.ensures p.result.decision c.ask_handlers-decision.result refl c.ask_handlers-decision.ensures in
-    rw (c.moved-t.ensures, c.commit.ensures) (turn _ _ _ _ _ r.slots r.state r.steps g c.if-steps-most.false _ (sym d ∙ ap (settled _) c.in-Ordinary.is))
+    rw (c.moved-t.ensures, c.commit.ensures) (turn _ _ _ _ _ r.slots r.state r.steps g c.if-steps-most.false _ (sym d ∙ ap (settled _) c.in-Ok.is))

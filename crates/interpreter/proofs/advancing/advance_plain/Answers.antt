@@ -6,6 +6,7 @@ use Rattle.return_types.specs.Settled.{settled}
 use Rattle.interpreter.proofs.Steps.{turn, ends_there, all_taken}
 use borrow.Enum.Refused.{opened}
 use Rattle.interpreter.proofs.advancing.advance_plain.Goals as goal
+use Rattle.std.specs.Prelude.{Ok}
 
 pub loop-u-init : goal.loop-u-init
 loop-u-init c = let p = c.requires in record { upto = p.taken_le_most; long = refl; framed = p.slots_value; rest = refl }
@@ -25,11 +26,11 @@ shape_of-slots-then-steps-most c = c.loop-u.invariant.long
 
 pub returns-then-steps-most : goal.returns-then-steps-most
 returns-then-steps-most c = let t = c.loop-u in
-    all_taken _ _ _ _ _ t.slots t.t t.steps t.invariant c.if-steps-most.true _ (sym c.decide_framed-decision.ensures ∙ ap (settled _) c.in-Ordinary.is)
+    all_taken _ _ _ _ _ t.slots t.t t.steps t.invariant c.if-steps-most.true _ (sym c.decide_framed-decision.ensures ∙ ap (settled _) c.in-Ok.is)
 
 pub commit-requires : goal.commit-requires
 commit-requires c = let t = c.loop-u in
-    let k = ordinary_legal _ t.t t.slots _ (sym c.decide_framed-decision.ensures ∙ ap (settled _) c.in-Ordinary.is) in
+    let k = ordinary_legal _ t.t t.slots _ (sym c.decide_framed-decision.ensures ∙ ap (settled _) c.in-Ok.is) in
     (k.few, k.within, k.frame_there.room)
 
 pub overflow_add-steps : goal.overflow_add-steps
@@ -42,4 +43,4 @@ loop-u-smaller c = omega (arith, c.loop-u.invariant.upto, c.if-steps-most.false)
 pub loop-u-preserved : goal.loop-u-preserved
 loop-u-preserved c = let t = c.loop-u in
     rw (c.moved-t.ensures, c.commit.ensures)
-    (turn _ _ _ _ _ t.slots t.t t.steps t.invariant c.if-steps-most.false _ (sym c.decide_framed-decision.ensures ∙ ap (settled _) c.in-Ordinary.is))
+    (turn _ _ _ _ _ t.slots t.t t.steps t.invariant c.if-steps-most.false _ (sym c.decide_framed-decision.ensures ∙ ap (settled _) c.in-Ok.is))

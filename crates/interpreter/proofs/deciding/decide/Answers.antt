@@ -7,12 +7,14 @@ use Rattle.interpreter.specs.Stages.{caught}
 use Rattle.interpreter.proofs.Plain.{caught_settled, decide_caught}
 use Rattle.interpreter.proofs.Answers.{by_frame}
 use Rattle.interpreter.proofs.deciding.decide.Goals as goal
+use Rattle.std.specs.Prelude.{Err}
+use Rattle.rules.specs.declared.halts.Halt.TheVariants.{Refused}
 
 pub decide_framed-decision-requires : goal.decide_framed-decision-requires
 decide_framed-decision-requires c = row_passed _ (sym c.in-Passed.is ∙ c.check_frame-asked.ensures _)
 
 pub returns-in-Refused : goal.returns-in-Refused
-returns-in-Refused c = sym (by_frame _ _ c.args.slots.now _ (sym c.in-Refused.is ∙ c.check_frame-asked.ensures _))
+returns-in-Err (Refused c) = sym (by_frame _ _ c.args.slots.now _ (sym c.in-Refused.is ∙ c.check_frame-asked.ensures _))
 
 pub returns-in-Passed : goal.returns-in-Passed
 returns-in-Passed c = let a = c.args in

@@ -8,6 +8,8 @@ use Rattle.return_types.specs.Settled.{settled}
 use Rattle.interpreter.specs.Stages.{located_of}
 use Rattle.interpreter.proofs.Answers.{decodes, by_fetch, by_needs, by_located, next_small, in_table}
 use Rattle.interpreter.proofs.deciding.decide_framed.Goals as goal
+use Rattle.std.specs.Prelude.{Err}
+use Rattle.rules.specs.declared.halts.Halt.TheVariants.{Refused}
 
 pub overflow_add-next : goal.overflow_add-next
 overflow_add-next c = let a = c.args in
@@ -25,7 +27,7 @@ decide_located-requires c = let a = c.args in
     rw c.locate-i.ensures (record { code_len_bound = (framed l a.s _ f).short_code; op_value = in_table l a.s a.slots.now f _ _ _ _ d })
 
 pub returns-in-Refused : goal.returns-in-Refused
-returns-in-Refused c = let a = c.args in
+returns-in-Err (Refused c) = let a = c.args in
     let l = method a.code.now a.kinds.now a.words.now [] in
     let f = c.requires in
     sym (by_fetch l a.s a.slots.now f _ (sym c.in-Refused.is ∙ c.decode-decoded.ensures))

@@ -7,6 +7,7 @@ use Rattle.interpreter.proofs.Steps.{settled_other}
 use Rattle.interpreter.proofs.Taken.{no_budget, legal_last, ends_stopped, ends_other}
 use borrow.Enum.Refused.{opened}
 use Rattle.interpreter.proofs.running.run_framed.Goals as goal
+use Rattle.std.specs.Prelude.{Ok}
 
 pub returns-then-budget-eq0 : goal.returns-then-budget-eq0
 returns-then-budget-eq0 c = let a = c.args in
@@ -23,7 +24,7 @@ returns-in_default c = let a = c.args in
 pub commit-requires : goal.commit-requires
 commit-requires c = let a = c.args in
     let l = method a.code.now a.kinds.now a.words.now a.handlers.now in
-    let k = legal_last l a.budget a.s a.slots.now c.if-budget-eq0.false _ c.advance_framed-reached.ensures.slots_after _ (ap (settled _) c.in-Ordinary.is) in
+    let k = legal_last l a.budget a.s a.slots.now c.if-budget-eq0.false _ c.advance_framed-reached.ensures.slots_after _ (ap (settled _) c.in-Ok.is) in
     (k.few, k.within, k.frame_there.room)
 
 pub overflow_add-steps : goal.overflow_add-steps
@@ -32,4 +33,4 @@ overflow_add-steps c = omega (arith, c.advance_framed-reached.ensures.steps_le_m
 pub returns : goal.returns
 returns c = let a = c.args in
     let l = method a.code.now a.kinds.now a.words.now a.handlers.now in
-    rw (c.moved-state.ensures, c.commit.ensures) (ends_stopped l a.budget a.s a.slots.now c.if-budget-eq0.false _ c.advance_framed-reached.ensures.slots_after _ (ap (settled _) c.in-Ordinary.is))
+    rw (c.moved-state.ensures, c.commit.ensures) (ends_stopped l a.budget a.s a.slots.now c.if-budget-eq0.false _ c.advance_framed-reached.ensures.slots_after _ (ap (settled _) c.in-Ok.is))

@@ -6,6 +6,7 @@ use Rattle.interpreter.proofs.Steps.{settled_other, settled_there, legal_there}
 use Rattle.interpreter.proofs.Taken.{step_ordinary, step_other}
 use borrow.Enum.Refused.{opened}
 use Rattle.interpreter.proofs.stepping.step_framed.Goals as goal
+use Rattle.std.specs.Prelude.{Ok}
 
 pub returns-in_default : goal.returns-in_default
 returns-in_default c = let a = c.args in
@@ -17,10 +18,10 @@ returns-in_default c = let a = c.args in
 pub commit-requires : goal.commit-requires
 commit-requires c = let a = c.args in
     let l = method a.code.now a.kinds.now a.words.now a.handlers.now in
-    let k = legal_there l a.s a.slots.now _ c.advance_framed-reached.ensures.slots_after _ (ap (settled _) c.in-Ordinary.is) in
+    let k = legal_there l a.s a.slots.now _ c.advance_framed-reached.ensures.slots_after _ (ap (settled _) c.in-Ok.is) in
     (k.few, k.within, k.frame_there.room)
 
 pub returns : goal.returns
 returns c = let a = c.args in
     let l = method a.code.now a.kinds.now a.words.now a.handlers.now in
-    rw (c.moved-state.ensures, c.commit.ensures) (step_ordinary l a.s a.slots.now _ c.advance_framed-reached.ensures.slots_after _ (ap (settled _) c.in-Ordinary.is))
+    rw (c.moved-state.ensures, c.commit.ensures) (step_ordinary l a.s a.slots.now _ c.advance_framed-reached.ensures.slots_after _ (ap (settled _) c.in-Ok.is))

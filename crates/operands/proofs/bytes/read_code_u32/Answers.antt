@@ -6,7 +6,3 @@ use Rattle.operands.proofs.bytes.read_code_u32.Goals as goal
 pub returns-then-code-at : goal.returns-then-code-at
 returns-then-code-at c = sym (u32_past c.args.code.now c.args.at c.if-code-at.true)
 
-pub returns-then-code-at-ge4 : goal.returns-then-code-at-ge4
-returns-then-code-at-ge4 c = let at = c.args.at in
-    let last : at + 2 + 1 ≡ at + 3 = omega arith in
-    rw (last) c.word_of_bytes.ensures

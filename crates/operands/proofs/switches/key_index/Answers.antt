@@ -22,12 +22,6 @@ returns-then-icmpeq c = let turn = c.before.before.before.before in
     let a = turn.args in
     omega (arith, index_here a.code.now (signed 31 a.key) a.at a.n turn.loop-i.i (omega arith) (sym (let turn = c in let a = turn.args in c.icmpeq.ensures ∙ ap (λ (x : ℤ). signed 31 a.key =ᶻ x) (word_means a.code.now (a.at + 8 * turn.loop-i.i) c.read_code_u32.result c.read_code_u32.ensures)) ∙ c.if-icmpeq.true))
 
-pub overflow_add-i : goal.overflow_add-i
-overflow_add-i c = omega arith
-
-pub loop-i-smaller : goal.loop-i-smaller
-loop-i-smaller c = omega arith
-
 pub loop-i-preserved : goal.loop-i-preserved
 loop-i-preserved c = let turn = c.before.before.before.before in
     let a = turn.args in

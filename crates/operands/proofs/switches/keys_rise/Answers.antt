@@ -25,12 +25,6 @@ returns-then-not-in_order c = let turn = c.before.before.before.before in
     let a = turn.args in
     sym (turn.loop-i.invariant.1 ∙ rising_no a.code.now a.at a.n (signed 31 turn.loop-i.last) turn.loop-i.i (omega arith) (sym (let turn = c in let a = turn.args in c.in_order.ensures ∙ ap (λ (x : ℤ). signed 31 turn.loop-i.last <ᶻ x) (word_means a.code.now (a.at + 8 * turn.loop-i.i) c.read_code_u32-key.result c.read_code_u32-key.ensures)) ∙ not-true c.in_order.result c.if-not-in_order.true-raw))
 
-pub overflow_add-i : goal.overflow_add-i
-overflow_add-i c = omega arith
-
-pub loop-i-smaller : goal.loop-i-smaller
-loop-i-smaller c = omega arith
-
 pub loop-i-preserved : goal.loop-i-preserved
 loop-i-preserved c = let turn = c.before.before.before.before in
     let a = turn.args in (

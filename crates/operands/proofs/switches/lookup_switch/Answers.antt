@@ -1,9 +1,10 @@
 -- `lookup_switch` meets its contract. Assumes nothing.
-use Rattle.std.proofs.Common.{sym, ap, ◌∙◌, ap₂, arith}
+use Rattle.std.proofs.Common.{ℕ, sym, ap, ◌∙◌, ap₂, arith}
 use borrow.Author.Tests.{not-true, not-false}
 use Rattle.rules.specs.Fetch.{u32, rising}
 use Rattle.rules.proofs.Questions.{lookup_cut, lookup_negative, lookup_missing, lookup_unsorted, lookup_there}
-use Rattle.operands.specs.declared.switches.Switch.TheVariants.{Accepted}
+use Rattle.operands.specs.declared.switches.Switch.{Switch}
+use Rattle.std.specs.Prelude.{Ok}
 use Rattle.operands.specs.Switch.{switch_of}
 use Rattle.operands.proofs.Readings.{word_of}
 use Rattle.operands.proofs.Counts.{Counted, negative, not_negative}
@@ -41,5 +42,5 @@ returns c = let rise = c.before.before in
     let a = place.args in
     let n : Counted rise.args.code.now rise.args.pc rise.after_padding-at.result rise.read_code_u32-count.result = let read = rise in let place = read in let a = place.args in not_negative a.code.now a.pc place.after_padding-at.result read.read_code_u32-count.result place.after_padding-at.ensures read.read_code_u32-count.ensures rise.if-count-ge2147483648.false in
     let sorted = sym (rise.keys_rise.ensures ∙ ap rising n.pairs) ∙ not-false rise.keys_rise.result c.if-not-keys_rise.false-raw in
-    let default = word_of a.code.now _ c.read_code_u32.result (c.read_code_u32.ensures ∙ ap (u32 a.code.now) place.after_padding-at.ensures) (omega (arith, c.read_code_u32.type_inv)) in
-    λ row. ap₂ Accepted (omega arith) default ∙ sym (ap switch_of (lookup_there a.code.now a.pc row (omega arith) n.counted (omega arith) sorted))
+    let default = word_of a.code.now _ c.read_code_u32-default.result (c.read_code_u32-default.ensures ∙ ap (u32 a.code.now) place.after_padding-at.ensures) (omega (arith, c.read_code_u32-default.type_inv)) in
+    λ row. ap₂ (λ (n d : ℕ). Ok (record { size = n; default = d })) (omega arith) default ∙ sym (ap switch_of (lookup_there a.code.now a.pc row (omega arith) n.counted (omega arith) sorted))

@@ -1,8 +1,7 @@
 -- `clear_words` meets its contract. The loop's invariant: the first i words are zeros. Assumes nothing.
-use Prim.Native.Nat.{◌+◌, ◌<◌}
+use Prim.Native.Nat.{◌+◌, ◌<◌, ℕ}
 use mathlib.Core.Path.{◌≡◌, refl, ap, ◌∙◌}
 use mathlib.Core.List.{List, ◌++◌}
-use Prim.Native.Nat.{ℕ}
 use native.Mathlib.Omega.{arith}
 use lib.ListN.{length, drop, length-set, length-replicate}
 use Rattle.sheet.proofs.Fronts.{zeros, front_set, one_more_zero}

@@ -6,6 +6,7 @@ use native.Mathlib.Omega.{arith}
 use Rattle.rules.specs.Sheet.{record_end, class_from}
 use Rattle.rules.proofs.Sheet.{class_end, next_class}
 use Rattle.sheet.proofs.handler_records.is_class.Goals as goal
+use Rattle.std.specs.Prelude.{Ok}
 
 pub loop-at-init : goal.loop-at-init
 loop-at-init c = refl
@@ -28,8 +29,8 @@ loop-at-smaller c = omega arith
 pub loop-at-preserved : goal.loop-at-preserved
 loop-at-preserved c = let t = c.loop-at in
     let a = c.args in
-    let passed = next_class a.sheet.now a.end a.index t.at c.loop-at-test.true ∙ ap (λ (b : Bool). b || class_from (a.end - record_end a.sheet.now t.at) a.sheet.now (record_end a.sheet.now t.at) a.end a.index) (sym c.is_class_at.ensures ∙ c.if-is_class_at.false) in
-    rw c.body_length.ensures (sym passed ∙ t.invariant)
+    let Ok = next_class a.sheet.now a.end a.index t.at c.loop-at-test.true ∙ ap (λ (b : Bool). b || class_from (a.end - record_end a.sheet.now t.at) a.sheet.now (record_end a.sheet.now t.at) a.end a.index) (sym c.is_class_at.ensures ∙ c.if-is_class_at.false) in
+    rw c.body_length.ensures (sym Ok ∙ t.invariant)
 
 pub returns : goal.returns
 returns c = let t = c.loop-at in

@@ -4,8 +4,8 @@ use mathlib.Core.Path.{◌≡◌, sym, ap, ◌∙◌}
 use mathlib.Core.Bool.{Bool, true}
 use mathlib.Core.List.{List}
 use borrow.Author.Tests.{not-true, not-false}
-use Rattle.rules.specs.declared.Mark.{Mark}
-use Rattle.rules.specs.declared.Reading.{Reading}
+use Rattle.rules.specs.declared.sheets.Mark.{Mark}
+use Rattle.rules.specs.declared.sheets.Reading.{Reading}
 use Rattle.rules.specs.Sheet.{body_length, follows, right_length, contents_read, marked_check}
 use Rattle.rules.proofs.Sheet.{disordered, wrong_length, read_on}
 use Rattle.sheet.specs.Records.{record_answer}

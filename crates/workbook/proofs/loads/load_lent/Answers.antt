@@ -8,6 +8,8 @@ use Rattle.rules.proofs.Placement.{sheet_within}
 use Rattle.workbook.proofs.Checks.{words_no, words_yes}
 use Rattle.workbook.proofs.LoadedWords.{parts_lie, load_short, load_refused, load_accepted}
 use Rattle.workbook.proofs.loads.load_lent.Goals as goal
+use Rattle.std.specs.Prelude.{Err}
+use Rattle.rules.specs.declared.halts.Halt.TheVariants.{Refused}
 
 pub has_words-requires : goal.has_words-requires
 has_words-requires c = let a = c.args in
@@ -32,7 +34,7 @@ write_parts-requires c = let a = c.args in
     record { in_bounds = room; code_bound = (k.code, k.code_length_lem, k.handlers, k.handlers_length_lem) }
 
 pub returns-in-Refused : goal.returns-in-Refused
-returns-in-Refused c = let a = c.args in
+returns-in-Err (Refused c) = let a = c.args in
     let read = c.requires in
     load_refused a.sheet.now a.slots.now a.kinds.now a.words.now a.state.now a.answer.now a.p read _ _ _ _ c.load_read-loaded.ensures (is_passed_lem _ (sym c.has_words.ensures ∙ not-false _ c.if-not-has_words.false-raw)) _ c.in-Refused.is
 
