@@ -15,7 +15,6 @@ use Rattle.rules.proofs.Rows.{of_row, small, small_row, OneLocal, no_local, one_
 use Rattle.instructions.specs.Table.{entry_of, pops_in, pushes_in, locals_in}
 use Rattle.instructions.proofs.Entries.{entry_bytes}
 use Rattle.frame.specs.declared.places.Placed.{Placed}
-use Rattle.frame.specs.declared.places.Placed.TheVariants.{At, Refused}
 use Rattle.frame.specs.Place.{local_there, place_check, answer, place_of}
 use Rattle.std.specs.Prelude.{Ok, Err}
 
@@ -47,8 +46,8 @@ pub record Stands (l : Method) (s : State) (i : Instruction) (first depth : ℕ)
   pub based : base s i ≡ first
   pub deep : s.depth - popped i + pushed i ≡ depth
 
-abbrev pub Says : Method → State → Instruction → Placed → Type 0
-Says l s i (At first depth) = Stands l s i first depth
+abbrev pub Says : Method → State → Instruction → Check Placed → Type 0
+Says l s i (Ok p) = Stands l s i p.base p.depth
 Says l s i (Err n) = needs_check l s i ≡ Err n
 
 module _ (code : List ℕ) (pc : ℕ) (i : Instruction) (t : Sound code pc i) where

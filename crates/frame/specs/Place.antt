@@ -4,7 +4,6 @@ use Rattle.rules.specs.declared.states.State.{State}
 use Rattle.rules.specs.Check.{Check, ◌else◌, ◌>>◌, ◌≤ⁿ◌, ◌=ⁿ◌}
 use Rattle.instructions.specs.Table.{pops_in, pushes_in, locals_in}
 use Rattle.frame.specs.declared.places.Placed.{Placed}
-use Rattle.frame.specs.declared.places.Placed.TheVariants.{At, Refused}
 use Rattle.rules.specs.declared.refusals.Refusal.{Refusal}
 
 -- all places of a local are below the limit; a local of no places is none
@@ -18,9 +17,9 @@ place_check entry index s = do
   local_there (locals_in entry) index s.max_locals else Refusal.Local
 
 -- the first place on the stack, counted from the first local, and the new depth
-abbrev pub answer : ℕ → State → Check (Unit {0}) → Placed
-answer entry s (Ok t) = At (s.max_locals + (s.depth - pops_in entry)) (s.depth - pops_in entry + pushes_in entry)
+abbrev pub answer : ℕ → State → Check (Unit {0}) → Check Placed
+answer entry s (Ok t) = Ok (record { base = s.max_locals + (s.depth - pops_in entry); depth = s.depth - pops_in entry + pushes_in entry })
 answer entry s (Err n) = Err n
 
-unfoldable pub place_of : ℕ → ℕ → State → Placed
+unfoldable pub place_of : ℕ → ℕ → State → Check Placed
 place_of entry index s = answer entry s (place_check entry index s)

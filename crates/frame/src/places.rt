@@ -3,13 +3,13 @@ ghost use Rattle.std.specs.Prelude.{◌≡◌};
 ghost use Rattle.frame.specs.Place.{local_there, place_of};
 
 use instructions::{locals_in, pops_in, pushes_in};
-use rules::State;
+use rules::{Refusal, State};
 
-// The first place of an instruction on the stack, counted from the first local, and the new depth; or the number of a refusal.
+// The first place of an instruction on the stack, counted from the first local, and the new depth.
 #[derive(Clone, Copy)]
-pub enum Placed {
-    At { base: u32, depth: u32 },
-    Refused(u32),
+pub struct Placed {
+    pub base: u32,
+    pub depth: u32,
 }
 
 // Whether all places of a local, if there are any, are below the limit.
@@ -23,24 +23,24 @@ fn local_there(places: u32, index: u32, limit: u16) -> bool
 }
 
 // Questions 6 to 8 for an instruction with its index.
-pub fn place(entry: u64, index: u32, s: State) -> Placed
+pub fn place(entry: u64, index: u32, s: State) -> Result<Placed, Refusal>
     ensures { result ≡ place_of entry index s }
 {
     let pops = pops_in(entry);
     let pushes = pushes_in(entry);
     let locals = locals_in(entry);
     if s.depth < pops {
-        return Placed::Refused(7);
+        return Err(Refusal::StackUnderflow);
     }
     let left = s.depth - pops;
     if left as u64 + pushes as u64 > s.max_stack as u64 {
-        return Placed::Refused(8);
+        return Err(Refusal::StackOverflow);
     }
     if !local_there(locals, index, s.max_locals) {
-        return Placed::Refused(9);
+        return Err(Refusal::Local);
     }
-    Placed::At {
+    Ok(Placed {
         base: s.max_locals as u32 + left,
         depth: left + pushes,
-    }
+    })
 }

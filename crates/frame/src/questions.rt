@@ -1,39 +1,41 @@
 // Questions 1 to 3: whether a frame stands in what is lent.
-ghost use Rattle.std.specs.Prelude.{ℕ, ◌≡◌, List, length};
-ghost use Rattle.rules.specs.Questions.{method, frame_check};
-ghost use Rattle.rules.specs.Answers.{checked};
+ghost use Rattle.std.specs.Prelude.{◌≡◌, length};
+ghost use Rattle.rules.specs.Lent.{lent};
+ghost use Rattle.rules.specs.Questions.{frame_check};
 
-use rules::{Checked, State};
+use rules::{Method, Refusal, State};
 
 // The most entries of a pool, and the most bytes of a code (JVMS 4.1, 4.7.3).
 const MAX_POOL: usize = 65536;
 
 const MAX_CODE: usize = 65535;
 
-// Questions 1 to 3, whatever the handlers are.
-pub fn check_frame(code: &[u8], kinds: &[u8], words: &[u32], slots: &[u32], s: State) -> Checked
-    ensures { (handlers : List ℕ) → result ≡ checked (frame_check (method code.now kinds.now words.now handlers) s (length slots.now)) }
+// Questions 1 to 3.
+pub fn check_frame(method: &Method, slots: &[u32], s: State) -> Result<(), Refusal>
+    ensures { result ≡ frame_check (lent method.now) s (length slots.now) }
 {
-    if kinds.len() != words.len() {
-        return Checked::Refused(1);
+    let code = method.code;
+    let kinds = method.kinds;
+    if kinds.len() != method.words.len() {
+        return Err(Refusal::Lengths);
     }
     if kinds.len() > MAX_POOL {
-        return Checked::Refused(1);
+        return Err(Refusal::Lengths);
     }
     if slots.len() < s.max_locals as usize + s.max_stack as usize {
-        return Checked::Refused(1);
+        return Err(Refusal::Lengths);
     }
     if code.len() < 1 {
-        return Checked::Refused(2);
+        return Err(Refusal::Code);
     }
     if code.len() > MAX_CODE {
-        return Checked::Refused(2);
+        return Err(Refusal::Code);
     }
     if code.len() <= s.pc as usize {
-        return Checked::Refused(2);
+        return Err(Refusal::Code);
     }
     if s.depth > s.max_stack as u32 {
-        return Checked::Refused(3);
+        return Err(Refusal::Depth);
     }
-    Checked::Passed
+    Ok(())
 }

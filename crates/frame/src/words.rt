@@ -19,11 +19,7 @@ pub fn write_words(target: &mut [u32], at: usize, words: &[u32], n: usize)
     requires { (at + n ≤ length target.old) × (n ≤ length words.now) }
     ensures { target.new ≡ paste target.old at words.now n }
 {
-    let mut j = 0;
-    while j < n {
-        target[at + j] = words[j];
-        j += 1;
-    }
+    target[at..at + n].copy_from_slice(&words[..n]);
 }
 
 // The words that an update has, written from an index on.
@@ -32,9 +28,8 @@ pub(crate) fn write_update(target: &mut [u32], at: usize, u: Update)
     ensures { target.new ≡ paste target.old at (update_words u) u.many }
 {
     if u.many == 2 {
-        write_two(target, at, u.w0, u.w1);
+        write_two(target, at, u.words[0], u.words[1]);
         return;
     }
-    let words = [u.w0, u.w1, u.w2, u.w3, u.w4, u.w5];
-    write_words(target, at, &words, u.many as usize);
+    write_words(target, at, &u.words, u.many as usize);
 }

@@ -1,7 +1,6 @@
 // The entries of the lent part: which of them catches what is thrown at an offset.
-ghost use Rattle.std.specs.Prelude.{◌≡◌, ◌+◌, ◌≤◌, length};
+ghost use Rattle.std.specs.Prelude.{◌≡◌, ◌+◌, ◌≤◌, length, get_or};
 ghost use Rattle.rules.specs.Handlers.{covers, takes, catches, handler_at};
-ghost use Rattle.handlers.specs.Found.{found};
 
 use operands::{read_code_u8, read_code_u16};
 
@@ -10,13 +9,6 @@ const ENTRY: usize = 12;
 
 // The tag of a class (JVMS 4.4).
 const CONSTANT_CLASS: u8 = 7;
-
-// Where a handler begins, or that there is none.
-#[derive(Clone, Copy)]
-pub enum Handler {
-    At(u16),
-    Nothing,
-}
 
 // Whether the range of the entry at an offset of the part has a place in the code; its end is excluded.
 fn is_covered(handlers: &[u8], at: usize, pc: u32) -> bool
@@ -27,6 +19,13 @@ fn is_covered(handlers: &[u8], at: usize, pc: u32) -> bool
         return false;
     }
     pc < read_code_u16(handlers, at + 6) as u32
+}
+
+// The word at an index, and 0 past the end.
+fn word_at(words: &[u32], index: usize) -> u32
+    ensures { result ≡ get_or words.now index 0 }
+{
+    words.get(index).copied().unwrap_or(0)
 }
 
 // Whether an ArithmeticException is taken by a catch type: 0 takes everything, a class what can be assigned to it.
@@ -40,10 +39,7 @@ fn is_taken(kinds: &[u8], words: &[u32], catch_type: u16) -> bool
     if read_code_u8(kinds, index) != CONSTANT_CLASS {
         return false;
     }
-    if words.len() <= index {
-        return false;
-    }
-    words[index] == 1
+    word_at(words, index) == 1
 }
 
 // Whether the entry at an offset of the part catches what is thrown at a place in the code.
@@ -57,18 +53,16 @@ fn is_caught(kinds: &[u8], words: &[u32], handlers: &[u8], at: usize, pc: u32) -
     is_taken(kinds, words, read_code_u16(handlers, at + 10))
 }
 
-// The handler of the first whole entry that catches what is thrown at a place in the code.
-pub fn find_handler(kinds: &[u8], words: &[u32], handlers: &[u8], pc: u32) -> Handler
-    ensures { result ≡ found (handler_at kinds.now words.now handlers.now pc) }
+// Where the handler begins of the first whole entry that catches what is thrown at a place in the code.
+pub fn find_handler(kinds: &[u8], words: &[u32], handlers: &[u8], pc: u32) -> Option<u16>
+    ensures { result ≡ handler_at kinds.now words.now handlers.now pc }
 {
-    let mut left = handlers.len() / ENTRY;
-    let mut at = 0;
-    while left > 0 {
+    let count = handlers.len() / ENTRY;
+    for i in 0..count {
+        let at = ENTRY * i;
         if is_caught(kinds, words, handlers, at, pc) {
-            return Handler::At(read_code_u16(handlers, at + 8));
+            return Some(read_code_u16(handlers, at + 8));
         }
-        at += ENTRY;
-        left -= 1;
     }
-    Handler::Nothing
+    None
 }

@@ -5,4 +5,4 @@ mod catching;
 mod entries;
 
 pub use catching::throw_at;
-pub use entries::{Handler, find_handler};
+pub use entries::find_handler;

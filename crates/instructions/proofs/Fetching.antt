@@ -19,10 +19,10 @@ use Rattle.operands.specs.declared.switches.Switch.{Switch}
 use Rattle.operands.specs.Switch.{switch_of}
 use Rattle.instructions.specs.declared.decoding.Decoded.{Decoded}
 use Rattle.instructions.specs.Table.{format_of, entry_of, length_in, format_in}
-use Rattle.instructions.specs.Decode.{decoded}
+use Rattle.instructions.specs.Decode.{instruction_by, decoded}
 use Rattle.instructions.specs.Stages.{fields, fields_of, sized_of, switch_decoded}
 use Rattle.instructions.proofs.Entries.{entry_bytes, implied_few}
-use Rattle.std.specs.Prelude.{Ok, Some, None, Option}
+use Rattle.std.specs.Prelude.{Ok, Some, None, Option, Err}
 use Rattle.rules.specs.declared.refusals.Refusal.{Refusal}
 
 -- what an instruction's format makes of its entry e: a length and operands, a table, pairs, or what follows WIDE
@@ -39,7 +39,7 @@ module _ (code : List ℕ) (pc e : ℕ) (r : Row) (E : entry_of (row_of r.opcode
   unfolding decoded sized_of ◌else◌ ◌>>◌
   sized_is n o = go (leb (pc + n) (length code))
     where
-      go : (t : Bool) → cond t (Decoded.Instruction e n o.index (low 32 o.constant)) (Decoded.Err Refusal.OperandBytes) ≡ decoded ((t else Refusal.OperandBytes) >> Ok (instruction r n o))
+      go : (t : Bool) → cond t (Ok (instruction_by e n o.index (low 32 o.constant))) (Err Refusal.OperandBytes) ≡ decoded ((t else Refusal.OperandBytes) >> Ok (instruction r n o))
       go true = rw E
       go false = refl
 
@@ -47,7 +47,7 @@ module _ (code : List ℕ) (pc e : ℕ) (r : Row) (E : entry_of (row_of r.opcode
   Alike : Check Instruction → Type 0
   Alike x = switch_decoded e (switch_of x) ≡ decoded x
 
-  asked : (t : Bool) (n : ℕ) (x : Check Instruction) → Alike x → Alike ((t else n) >> x)
+  asked : (t : Bool) (n : Refusal) (x : Check Instruction) → Alike x → Alike ((t else n) >> x)
   unfolding Alike decoded switch_of ◌else◌ ◌>>◌
   asked true n x h = h
   asked false n x h = refl
@@ -58,11 +58,11 @@ module _ (code : List ℕ) (pc e : ℕ) (r : Row) (E : entry_of (row_of r.opcode
 
   pub table_is : switch_decoded e (switch_of (table_check code pc r)) ≡ decoded (table_check code pc r)
   unfolding Alike table_check
-  table_is = asked _ 5 _ (asked _ 6 _ (asked _ 5 _ (accepted _ _ _)))
+  table_is = asked _ _ _ (asked _ _ _ (asked _ _ _ (accepted _ _ _)))
 
   pub lookup_is : switch_decoded e (switch_of (lookup_check code pc r)) ≡ decoded (lookup_check code pc r)
   unfolding Alike lookup_check
-  lookup_is = asked _ 5 _ (asked _ 6 _ (asked _ 5 _ (asked _ 6 _ (accepted _ _ _))))
+  lookup_is = asked _ _ _ (asked _ _ _ (asked _ _ _ (asked _ _ _ (accepted _ _ _))))
 
   -- ---- by the format
 
@@ -122,14 +122,14 @@ module _ (code : List ℕ) (pc : ℕ) where
   unfolding entry_of
   outside_length e = ap (λ (o : Option Row). length_in (entry_of o)) e
 
-  same : (r : Row) → OfRow r → {d : Decoded} → d ≡ decoded (by_format code pc r r.format) → d ≡ decoded (fetched code pc)
+  same : (r : Row) → OfRow r → {d : Check Decoded} → d ≡ decoded (by_format code pc r r.format) → d ≡ decoded (fetched code pc)
   same r o p = p ∙ ap decoded (sym (of_core code pc r o.at))
 
-  pub no_instruction : length_in here ≡ 255 → Decoded.Err Refusal.Opcode ≡ decoded (fetched code pc)
+  pub no_instruction : length_in here ≡ 255 → Err Refusal.Opcode ≡ decoded (fetched code pc)
   unfolding decoded
   no_instruction h = cases _ (λ e. ap decoded (sym (not_core code pc e))) (λ r o. go r o.length_is o.class_of)
     where
-      go : (r : Row) → length_in here ≡ length_of r.format → Class code pc here r r.format → Decoded.Err Refusal.Opcode ≡ decoded (fetched code pc)
+      go : (r : Row) → length_in here ≡ length_of r.format → Class code pc here r r.format → Err Refusal.Opcode ≡ decoded (fetched code pc)
       go r l (of_fixed_length a b s) = absurd (omega arith)
       go r l (of_table a b s) = absurd (omega arith)
       go r l (of_pairs a b s) = absurd (omega arith)
@@ -144,7 +144,7 @@ module _ (code : List ℕ) (pc : ℕ) where
       go r l (of_pairs a b s) = absurd (omega arith)
       go r l (of_wide a s) = s
 
-  pub table_instruction : (x : Switch) → ((row : Row) → x ≡ switch_of (table_check code pc row)) → length_in here ≡ 0 → format_in here ≡ 11
+  pub table_instruction : (x : Check Switch) → ((row : Row) → x ≡ switch_of (table_check code pc row)) → length_in here ≡ 0 → format_in here ≡ 11
       → switch_decoded here x ≡ decoded (fetched code pc)
   table_instruction x p h f = cases _ (λ e. let z = outside_length e in absurd (omega arith)) (λ r o. same r o (go r o.length_is o.format_is o.class_of))
     where
@@ -155,7 +155,7 @@ module _ (code : List ℕ) (pc : ℕ) where
       go r l k (of_pairs a b s) = absurd (omega arith)
       go r l k (of_wide a s) = absurd (omega arith)
 
-  pub lookup_instruction : (x : Switch) → ((row : Row) → x ≡ switch_of (lookup_check code pc row)) → length_in here ≡ 0 → (format_in here ≡ 11 → ⊥)
+  pub lookup_instruction : (x : Check Switch) → ((row : Row) → x ≡ switch_of (lookup_check code pc row)) → length_in here ≡ 0 → (format_in here ≡ 11 → ⊥)
       → switch_decoded here x ≡ decoded (fetched code pc)
   lookup_instruction x p h f = cases _ (λ e. let z = outside_length e in absurd (omega arith)) (λ r o. same r o (go r o.length_is o.format_is o.class_of))
     where

@@ -10,17 +10,15 @@ use operands::{
     Switch, lookup_switch, read_code_i8, read_code_i16, read_code_u8, read_code_u16, read_code_u32,
     table_switch,
 };
+use rules::Refusal;
 
-// An instruction, or the number of the question that refuses it.
+// An instruction: its entry in the table, its length in bytes, and its operands.
 #[derive(Clone, Copy)]
-pub enum Decoded {
-    Instruction {
-        entry: u64,
-        size: usize,
-        index: u32,
-        constant: u32,
-    },
-    Refused(u32),
+pub struct Decoded {
+    pub entry: u64,
+    pub size: usize,
+    pub index: u32,
+    pub constant: u32,
 }
 
 // What the operand bytes say: an index, and a constant as a word.
@@ -73,19 +71,19 @@ fn operand_fields(code: &[u8], pc: u32, format: u32) -> Fields
 }
 
 // An instruction of a length in bytes, if they are there.
-fn sized(code: &[u8], pc: u32, entry: u64, size: usize, fields: Fields) -> Decoded
+fn sized(code: &[u8], pc: u32, entry: u64, size: usize, fields: Fields) -> Result<Decoded, Refusal>
     requires { size < 512 }
     ensures { result ≡ sized_of code.now pc entry size fields }
 {
     if code.len() < pc as usize + size {
-        return Decoded::Refused(5);
+        return Err(Refusal::OperandBytes);
     }
-    Decoded::Instruction {
+    Ok(Decoded {
         entry,
         size,
         index: fields.index,
         constant: fields.constant,
-    }
+    })
 }
 
 // Whether WIDE takes an opcode.
@@ -108,16 +106,16 @@ fn is_widened(opcode: u8) -> bool
 }
 
 // WIDE: an instruction with its operands at twice the size, and with WIDE itself twice as long.
-fn wide(code: &[u8], pc: u32) -> Decoded
+fn wide(code: &[u8], pc: u32) -> Result<Decoded, Refusal>
     ensures { result ≡ decoded (wide_check code.now pc) }
 {
     let at = pc as usize;
     if code.len() <= at + 1 {
-        return Decoded::Refused(5);
+        return Err(Refusal::OperandBytes);
     }
     let opcode = read_code_u8(code, at + 1);
     if !is_widened(opcode) {
-        return Decoded::Refused(4);
+        return Err(Refusal::Opcode);
     }
     let index = read_code_u16(code, at + 2) as u32;
     let row = entry(opcode);
@@ -130,29 +128,27 @@ fn wide(code: &[u8], pc: u32) -> Decoded
 }
 
 // An accepted switch as an instruction.
-fn switched(entry: u64, switch: Switch) -> Decoded
-    ensures { result ≡ switch_decoded entry switch }
+fn switched(entry: u64, asked: Result<Switch, Refusal>) -> Result<Decoded, Refusal>
+    ensures { result ≡ switch_decoded entry asked }
 {
-    match switch {
-        Switch::Accepted { size, default } => Decoded::Instruction {
-            entry,
-            size,
-            index: 0,
-            constant: default,
-        },
-        Switch::Refused(number) => Decoded::Refused(number),
-    }
+    let switch = asked?;
+    Ok(Decoded {
+        entry,
+        size: switch.size,
+        index: 0,
+        constant: switch.default,
+    })
 }
 
 // The instruction at an offset.
-pub fn decode(code: &[u8], pc: u32) -> Decoded
+pub fn decode(code: &[u8], pc: u32) -> Result<Decoded, Refusal>
     ensures { result ≡ decoded (fetched code.now pc) }
 {
     let row = entry(read_code_u8(code, pc as usize));
     let length = length_in(row);
     let format = format_in(row);
     if length == LENGTH_NONE {
-        return Decoded::Refused(4);
+        return Err(Refusal::Opcode);
     }
     if length == LENGTH_WIDE {
         return wide(code, pc);

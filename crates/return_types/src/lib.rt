@@ -8,7 +8,7 @@ ghost use Rattle.rules.specs.Step.{return_of, decision};
 ghost use Rattle.return_types.specs.Settled.{settled};
 
 use integers::{i2b, i2c, i2s};
-use rules::Decision;
+use rules::{Decision, Halt, Refusal};
 use values::Value;
 
 // The return types, in ASCII (JVMS, table 4.3-A).
@@ -121,9 +121,9 @@ fn give_back(return_type: u32, v: Value) -> Decision
     ensures { result ≡ decision (return_of return_type v) }
 {
     if !may_return(return_type, v) {
-        return Decision::Refused(32);
+        return Err(Halt::Refused(Refusal::ReturnType));
     }
-    Decision::Return(given_back(return_type, v))
+    Err(Halt::Return(given_back(return_type, v)))
 }
 
 // A decision whose return has not been asked question 32 yet. A run asks it once, of its last decision, and not at each of its steps.
@@ -131,9 +131,7 @@ pub fn settle(return_type: u32, decision: Decision) -> Decision
     ensures { result ≡ settled return_type decision }
 {
     match decision {
-        Decision::Ordinary(u) => Decision::Ordinary(u),
-        Decision::Return(v) => give_back(return_type, v),
-        Decision::Throw => Decision::Throw,
-        Decision::Refused(n) => Decision::Refused(n),
+        Err(Halt::Return(v)) => give_back(return_type, v),
+        other => other,
     }
 }

@@ -14,7 +14,8 @@ use Rattle.rules.specs.Fetch.{Instruction, fetched}
 use Rattle.rules.specs.Questions.{Method, frame_check, needs_check}
 use Rattle.rules.specs.Step.{words_at, inside, outcome, decision, decide_frame, Machine, decide_on, moved, written, cleared}
 use Rattle.rules.specs.Run.{ends, run_from}
-use Rattle.std.specs.Prelude.{Ok, Err, Some, None}
+use Rattle.std.specs.Prelude.{Bool, true, false, ltb, Ok, Err, Some, None}
+use native.Mathlib.Omega.{arith}
 use Rattle.rules.specs.declared.refusals.Refusal.{Refusal}
 use Rattle.rules.specs.declared.halts.Halt.TheVariants.{Return, Throw, Refused}
 
@@ -27,6 +28,14 @@ next_inside code n h = simp (lt-ltb _ _ h)
 pub next_outside : (code : List ℕ) (n : ℕ) → length code ≤ n → inside code (pos n) ≡ Err Refusal.Target
 unfolding ◌else◌ ◌>>◌
 next_outside code n h = simp (le-ltb _ _ h)
+
+pub inside_place : (code : List ℕ) (n x : ℕ) → inside code (pos n) ≡ Ok x → n ≡ x
+unfolding ◌else◌ ◌>>◌
+inside_place code n x e = go (ltb n (length code)) e
+  where
+    go : (t : Bool) → ((t else Refusal.Target) >> Ok n) ≡ Ok x → n ≡ x
+    go true e = cc
+    go false e = let z : ◌≡◌ {A = ℕ} 0 1 = cc in absurd (omega arith)
 
 -- ---- the decision
 

@@ -1,54 +1,53 @@
 -- `check_frame` meets its contract: a law of the questions a return. Assumes nothing.
 use mathlib.Core.Path.{sym, ap}
 use Rattle.rules.proofs.Questions.{unpaired, long_pool, no_room, no_code, long_code, outside, too_deep, frame_passed}
-use Rattle.rules.specs.Answers.{checked}
 use Rattle.frame.proofs.questions.check_frame.Goals as goal
 
 pub returns-then-kinds-words : goal.returns-then-kinds-words
-returns-then-kinds-words c = λ _. sym (ap checked (unpaired _ _ _ c.if-kinds-words.true))
+returns-then-kinds-words c = sym (unpaired _ _ _ c.if-kinds-words.true)
 
 pub returns-then-kinds-gt-MAX_POOL : goal.returns-then-kinds-gt-MAX_POOL
-returns-then-kinds-gt-MAX_POOL c = λ _. sym (ap checked (long_pool _ _ _ c.if-kinds-words.false c.if-kinds-gt-MAX_POOL.true))
+returns-then-kinds-gt-MAX_POOL c = sym (long_pool _ _ _ c.if-kinds-words.false c.if-kinds-gt-MAX_POOL.true)
 
 pub returns-then-slots-s : goal.returns-then-slots-s
-returns-then-slots-s c = λ _.
+returns-then-slots-s c =
     let two = c.before.before.before in
-    sym (ap checked (no_room _ _ _ two.if-kinds-words.false two.if-kinds-gt-MAX_POOL.false c.if-slots-s.true))
+    sym (no_room _ _ _ two.if-kinds-words.false two.if-kinds-gt-MAX_POOL.false c.if-slots-s.true)
 
 pub returns-then-code-lt1 : goal.returns-then-code-lt1
-returns-then-code-lt1 c = λ _.
+returns-then-code-lt1 c =
     let three = c.before in
     let two = three.before.before.before in
-    sym (ap checked (no_code _ _ _ two.if-kinds-words.false two.if-kinds-gt-MAX_POOL.false three.if-slots-s.false c.if-code-lt1.true))
+    sym (no_code _ _ _ two.if-kinds-words.false two.if-kinds-gt-MAX_POOL.false three.if-slots-s.false c.if-code-lt1.true)
 
 pub returns-then-code-gt-MAX_CODE : goal.returns-then-code-gt-MAX_CODE
-returns-then-code-gt-MAX_CODE c = λ _.
+returns-then-code-gt-MAX_CODE c =
     let three = c.before.before in
     let two = three.before.before.before in
-    sym (ap checked (long_code _ _ _ two.if-kinds-words.false two.if-kinds-gt-MAX_POOL.false three.if-slots-s.false c.if-code-lt1.false c.if-code-gt-MAX_CODE.true))
+    sym (long_code _ _ _ two.if-kinds-words.false two.if-kinds-gt-MAX_POOL.false three.if-slots-s.false c.if-code-lt1.false c.if-code-gt-MAX_CODE.true)
 
 pub returns-then-code-s : goal.returns-then-code-s
-returns-then-code-s c = λ _.
+returns-then-code-s c =
     let five = c.before.before in
     let three = five.before.before in
     let two = three.before.before.before in
-    sym (ap checked (outside _ _ _ two.if-kinds-words.false two.if-kinds-gt-MAX_POOL.false three.if-slots-s.false five.if-code-lt1.false five.if-code-gt-MAX_CODE.false c.if-code-s.true))
+    sym (outside _ _ _ two.if-kinds-words.false two.if-kinds-gt-MAX_POOL.false three.if-slots-s.false five.if-code-lt1.false five.if-code-gt-MAX_CODE.false c.if-code-s.true)
 
 pub returns-then-s : goal.returns-then-s
-returns-then-s c = λ _.
+returns-then-s c =
     let six = c.before.before.before in
     let five = six.before.before in
     let three = five.before.before in
     let two = three.before.before.before in
-    sym (ap checked (too_deep _ _ _ two.if-kinds-words.false two.if-kinds-gt-MAX_POOL.false three.if-slots-s.false five.if-code-lt1.false five.if-code-gt-MAX_CODE.false six.if-code-s.false c.if-s.true))
+    sym (too_deep _ _ _ two.if-kinds-words.false two.if-kinds-gt-MAX_POOL.false three.if-slots-s.false five.if-code-lt1.false five.if-code-gt-MAX_CODE.false six.if-code-s.false c.if-s.true)
 
 pub returns : goal.returns
-returns c = λ _.
+returns c =
     let six = c.before.before.before in
     let five = six.before.before in
     let three = five.before.before in
     let two = three.before.before.before in
-    sym (ap checked (frame_passed _ _ _ record {
+    sym (frame_passed _ _ _ record {
       paired = two.if-kinds-words.false;
       pool = two.if-kinds-gt-MAX_POOL.false;
       room = three.if-slots-s.false;
@@ -56,4 +55,4 @@ returns c = λ _.
       short_code = five.if-code-gt-MAX_CODE.false;
       in_code = six.if-code-s.false;
       deep = c.if-s.false;
-    }))
+    })

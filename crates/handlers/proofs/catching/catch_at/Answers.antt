@@ -1,21 +1,27 @@
--- `catch_at` meets its contract: a law of the step to a handler a return. Assumes nothing.
-use Prim.Native.Nat.{◌≤◌}
-use mathlib.Core.Path.{sym, ap}
-use native.Mathlib.Omega.{arith}
+-- `catch_at` meets its contract. Assumes nothing.
+use Rattle.std.proofs.Common.{◌≡◌, ◌≤◌, arith, sym, ap, ◌∙◌}
+use Rattle.std.proofs.lemmas.Result.{err_from_is_err_and}
+use borrow.Author.Tests.{le-leb}
+use Rattle.rules.specs.Check.{◌else◌, ◌>>◌, ◌>>=◌}
 use Rattle.rules.specs.Step.{decision}
-use Rattle.rules.proofs.Handlers.{no_room_to_catch, handler_outside, caught_step}
+use Rattle.rules.proofs.Step.{inside_place}
+use Rattle.rules.proofs.Handlers.{no_room_to_catch}
 use Rattle.handlers.proofs.catching.catch_at.Goals as goal
 
 pub returns-then-s-eq0 : goal.returns-then-s-eq0
 returns-then-s-eq0 c = let a = c.args in
     sym (ap decision (no_room_to_catch a.code.now a.s a.handler c.if-s-eq0.true))
 
-pub returns-then-code-handler : goal.returns-then-code-handler
-returns-then-code-handler c = let a = c.args in
+pub returns-in_err-inside : goal.returns-in_err-inside
+unfolding ◌else◌ ◌>>◌ ◌>>=◌
+returns-in_err-inside c = let a = c.args in
     let room : 1 ≤ a.s.max_stack = omega arith in
-    sym (ap decision (handler_outside a.code.now a.s a.handler room c.if-code-handler.true))
+    let p = err_from_is_err_and c.from_residual.result c.from_residual.ensures.1 in
+    rw (p.1, p.2) (simp (le-leb _ _ room, ← c.inside.ensures, c.in_err-inside.was))
 
 pub returns : goal.returns
+unfolding ◌else◌ ◌>>◌ ◌>>=◌
 returns c = let a = c.args in
     let room : 1 ≤ a.s.max_stack = omega arith in
-    sym (ap decision (caught_step a.code.now a.s a.handler room c.if-code-handler.false))
+    let answer = sym c.inside.ensures ∙ c.in_ok-inside.was in
+    simp (le-leb _ _ room, answer, ← inside_place a.code.now a.handler _ answer)

@@ -1,6 +1,6 @@
 -- `is_taken` meets its contract. Assumes nothing.
-use lib.ListN.{get_or-eq_default}
 use borrow.Author.Tests.{eq-eqb, ne_eqb}
+use Rattle.std.proofs.lemmas.Option.{unwrap_or-slice_get}
 use Rattle.rules.specs.Handlers.{takes}
 use Rattle.handlers.proofs.entries.is_taken.Goals as goal
 
@@ -12,10 +12,6 @@ pub returns-then-read_code_u8-ne-CONSTANT_CLASS : goal.returns-then-read_code_u8
 unfolding takes
 returns-then-read_code_u8-ne-CONSTANT_CLASS c = simp (ne_eqb _ _ c.if-catch_type-eq0.false, ← c.read_code_u8.ensures, ne_eqb _ _ c.if-read_code_u8-ne-CONSTANT_CLASS.true)
 
-pub returns-then-words-index : goal.returns-then-words-index
-unfolding takes
-returns-then-words-index c = simp (ne_eqb _ _ c.if-catch_type-eq0.false, ← c.read_code_u8.ensures, eq-eqb _ _ c.if-read_code_u8-ne-CONSTANT_CLASS.false, get_or-eq_default c.args.words.now 0 c.if-words-index.true)
-
 pub returns : goal.returns
 unfolding takes
-returns c = simp (ne_eqb _ _ c.if-catch_type-eq0.false, ← c.read_code_u8.ensures, eq-eqb _ _ c.if-read_code_u8-ne-CONSTANT_CLASS.false)
+returns c = simp (ne_eqb _ _ c.if-catch_type-eq0.false, ← c.read_code_u8.ensures, eq-eqb _ _ c.if-read_code_u8-ne-CONSTANT_CLASS.false, ← c.word_at.ensures)

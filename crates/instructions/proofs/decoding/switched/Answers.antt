@@ -1,10 +1,9 @@
 -- `switched` meets its contract. Assumes nothing.
+use Rattle.std.proofs.lemmas.Result.{err_from_is_err_and}
 use Rattle.instructions.proofs.decoding.switched.Goals as goal
-use Rattle.std.specs.Prelude.{Err}
-use Rattle.rules.specs.declared.halts.Halt.TheVariants.{Refused}
 
-pub returns-in-Accepted : goal.returns-in-Accepted
-returns-in-Accepted c = simp c.in-Accepted.is
+pub returns-in_err-switch : goal.returns-in_err-switch
+returns-in_err-switch c = let p = err_from_is_err_and c.from_residual.result c.from_residual.ensures.1 in rw (p.1, p.2) (simp c.in_err-switch.was)
 
-pub returns-in-Refused : goal.returns-in-Refused
-returns-in-Err c = simp c.in-Refused.is
+pub returns : goal.returns
+returns c = simp c.in_ok-switch.was

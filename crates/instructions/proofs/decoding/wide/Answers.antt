@@ -12,7 +12,6 @@ use Rattle.instructions.specs.Table.{entry_of, length_in}
 use Rattle.instructions.specs.Decode.{decoded}
 use Rattle.instructions.proofs.Fetching.{wide_increment, wide_other}
 use Rattle.instructions.proofs.decoding.wide.Goals as goal
-use Rattle.std.specs.Prelude.{Err}
 
 -- what is known once the length is read
 module _ (code : List ℕ) (pc opcode : ℕ) (fits : opcode < 256) (read : opcode ≡ wide_opcode code pc) where
@@ -35,8 +34,8 @@ returns-then-code-at c = sym (ap decoded (wide_cut c.args.code.now c.args.pc c.i
 pub returns-then-not-is_widened : goal.returns-then-not-is_widened
 unfolding decoded
 returns-then-not-is_widened c = let a = c.args in
-    let Err = sym (ap widens c.read_code_u8-opcode.ensures) ∙ sym c.is_widened.ensures ∙ not-true c.is_widened.result c.if-not-is_widened.true-raw in
-    sym (ap decoded (wide_not_allowed a.code.now a.pc c.if-code-at.false Err))
+    let refused = sym (ap widens c.read_code_u8-opcode.ensures) ∙ sym c.is_widened.ensures ∙ not-true c.is_widened.result c.if-not-is_widened.true-raw in
+    sym (ap decoded (wide_not_allowed a.code.now a.pc c.if-code-at.false refused))
 
 pub returns-then-opcode : goal.returns-then-opcode
 returns-then-opcode c =
