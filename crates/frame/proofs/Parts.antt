@@ -8,6 +8,7 @@ use borrow.Rule.Slice.PartMut.{put_mid}
 use lib.Dec.{lit≤}
 use lib.ListN.{length, take, drop, set, take-append-drop, length-drop}
 use lib.Seq.{paste, paste-zero, paste-suc, length-take-le, take-append-add, drop-append-add}
+use Rattle.std.proofs.lemmas.List.{drop-drop}
 use Rattle.rules.proofs.Pasted.{paste_left}
 
 -- ---- one by one
@@ -42,3 +43,10 @@ paste_part l a e j n ws h k =
     ∙ paste_right (take a l) (drop a l) j n ws
     ∙ ap (λ (z : List ℕ). take a l ++ paste z j ws n) (sym (take-append-drop (e - a) (drop a l)))
     ∙ ap (λ (z : List ℕ). take a l ++ z) (paste_left (take (e - a) (drop a l)) (drop (e - a) (drop a l)) j n ws (omega arith)))
+
+-- ---- a part copied over
+
+pub copied : (l ws : List ℕ) (at n : ℕ) → put_mid at (at + n - at) l (take n ws) ≡ paste l at ws n
+copied l ws at n =
+    let count : at + n - at ≡ n = omega arith in
+    rw (count, drop-drop n at l) (simp append_assoc)

@@ -7,5 +7,5 @@ use Rattle.rules.specs.Decisions.{Decision}
 abbrev pub settled : ℕ → Decision → Decision
 settled t (Ok u) = Ok u
 settled t (Err (Return v)) = decision (return_of t v)
-settled t (Err Throw) = (Err Throw)
+settled t (Err Throw) = Err Throw
 settled t (Err (Refused n)) = Err (Refused n)

@@ -131,7 +131,9 @@ pub fn settle(return_type: u32, decision: Decision) -> Decision
     ensures { result ≡ settled return_type decision }
 {
     match decision {
+        Ok(u) => Ok(u),
         Err(Halt::Return(v)) => give_back(return_type, v),
-        other => other,
+        Err(Halt::Throw) => Err(Halt::Throw),
+        Err(Halt::Refused(refusal)) => Err(Halt::Refused(refusal)),
     }
 }

@@ -10,4 +10,4 @@ pub returns-then-not-may_return : goal.returns-then-not-may_return
 returns-then-not-may_return c = sym (of_another_kind c.args.return_type c.args.v (sym c.may_return.ensures ∙ not-true _ c.if-not-may_return.true-raw))
 
 pub returns : goal.returns
-returns c = ap Err (Return c).given_back.ensures ∙ sym (gives_back c.args.return_type c.args.v (sym c.may_return.ensures ∙ not-false _ c.if-not-may_return.false-raw))
+returns c = ap (λ v. Err (Return v)) c.given_back.ensures ∙ sym (gives_back c.args.return_type c.args.v (sym c.may_return.ensures ∙ not-false _ c.if-not-may_return.false-raw))
