@@ -15,6 +15,7 @@ use Rattle.instructions.specs.Table.{is_in, shared_of}
 use Rattle.effects.specs.declared.outcome.Effect.{Effect}
 use Rattle.effects.specs.Effects.{effect_of, effect_at}
 use Rattle.effects.specs.Families.{shared_opcodes}
+use Rattle.std.specs.Prelude.{Some}
 
 unfoldable own_effect : Row → ℕ → ℕ → List (ℤ × ℤ) → ℕ → ℕ → ℕ → ℕ → Effect
 own_effect r index constant pairs a b c d = effect_of (r.rule.does (operands index (signed 31 constant) pairs) (take (works r.rule) (a ∷ b ∷ c ∷ d ∷ [])))

@@ -17,4 +17,4 @@ mod returns;
 mod stack;
 
 pub use choice::effect;
-pub use outcome::{Effect, Six};
+pub use outcome::Effect;

@@ -1,6 +1,6 @@
 -- What the answers of the questions' functions say of the questions. Assumes nothing.
 use Prim.Native.Nat.{ℕ, ◌+◌, ◌≤◌}
-use mathlib.Core.Path.{◌≡◌, refl}
+use mathlib.Core.Path.{◌≡◌, refl, ap}
 use mathlib.Core.Bool.{Bool, true, false}
 use mathlib.Core.List.{List, []}
 use native.Mathlib.Omega.{arith}
@@ -17,16 +17,12 @@ use Rattle.rules.specs.Step.{frame, inside, decide_of}
 use Rattle.rules.proofs.Questions as rules
 use Rattle.rules.proofs.Fetched.{fetched_sound}
 use Rattle.rules.proofs.Step.{refused_by_frame, refused_by_fetch, refused_by_needs}
-use Rattle.operands.specs.declared.jump.Target.{Target}
-use Rattle.operands.specs.Target.{target_of}
-use Rattle.instructions.specs.declared.decoding.Decoded.TheVariants as Decoded
-use Rattle.instructions.specs.Decode.{decoded}
+use Rattle.instructions.specs.declared.decoding.Decoded.{Decoded}
+use Rattle.instructions.specs.Decode.{instruction_by, decoded}
 use Rattle.instructions.specs.Table.{is_in, shared_in}
 use Rattle.effects.specs.Families.{shared_opcodes}
 use Rattle.frame.specs.declared.places.Placed.{Placed}
-use Rattle.rules.specs.Answers.{checked}
 use Rattle.frame.specs.Place.{place_of}
-use Rattle.rules.proofs.Answers.{row_refused}
 use Rattle.frame.proofs.Needs.{Says, place_says}
 use Rattle.return_types.specs.Settled.{settled}
 use Rattle.interpreter.specs.Stages.{reach, located_of, located_decision}
@@ -38,10 +34,14 @@ use Rattle.rules.specs.declared.halts.Halt.TheVariants.{Refused}
 
 -- ---- questions 1 to 3
 
-pub by_frame : (l : Method) (s : State) (slots : List ℕ) (n : ℕ) → Err n ≡ checked (frame_check l s (length slots)) → decide_of l s slots ≡ Err (Refused n)
-by_frame l s slots n e = refused_by_frame l (length slots) s (frame s slots) n (row_refused (frame_check l s (length slots)) n e)
+pub by_frame : (l : Method) (s : State) (slots : List ℕ) (n : Refusal) → frame_check l s (length slots) ≡ Err n → decide_of l s slots ≡ Err (Refused n)
+by_frame l s slots n e = refused_by_frame l (length slots) s (frame s slots) n e
 
 -- ---- questions 4 and 5
+
+-- what two answers that pass have in common
+ok_same : {A : Type 0} {x y : A} → ◌≡◌ {A = Check A} (Ok x) (Ok y) → x ≡ y
+ok_same e = cc
 
 -- the instruction that was decoded
 pub record Decodes (code : List ℕ) (pc entry size index constant : ℕ) : Type 0 where
@@ -52,36 +52,36 @@ pub record Decodes (code : List ℕ) (pc entry size index constant : ℕ) : Type
   pub indexed : index ≡ i.operand.index
   pub as_word : constant ≡ low 32 i.operand.constant
 
-pub decodes : (code : List ℕ) (pc entry size index constant : ℕ) → Decoded.Instruction entry size index constant ≡ decoded (fetched code pc) → Decodes code pc entry size index constant
+pub decodes : (code : List ℕ) (pc entry size index constant : ℕ) → Ok (instruction_by entry size index constant) ≡ decoded (fetched code pc) → Decodes code pc entry size index constant
 unfolding decoded
 decodes code pc entry size index constant e = go (fetched code pc) refl e
   where
-    go : (x : Check Instruction) → fetched code pc ≡ x → Decoded.Instruction entry size index constant ≡ decoded x → Decodes code pc entry size index constant
-    go (Ok i) f h = record { i = i; at = f; entered = cc; sized = cc; indexed = cc; as_word = cc }
+    go : (x : Check Instruction) → fetched code pc ≡ x → Ok (instruction_by entry size index constant) ≡ decoded x → Decodes code pc entry size index constant
+    go (Ok i) f h = let same = ok_same h in record { i = i; at = f; entered = ap (λ (x : Decoded). x.entry) same; sized = ap (λ (x : Decoded). x.size) same; indexed = ap (λ (x : Decoded). x.index) same; as_word = ap (λ (x : Decoded). x.constant) same }
     go (Err n) f h = let z : ◌≡◌ {A = ℕ} 0 1 = cc in absurd (omega arith)
 
-not_decoded : (x : Check Instruction) (n : ℕ) → Decoded.Err (Refused n) ≡ decoded x → x ≡ Err n
+not_decoded : (x : Check Instruction) (n : Refusal) → Err n ≡ decoded x → x ≡ Err n
 unfolding decoded
 not_decoded (Ok i) n e = let z : ◌≡◌ {A = ℕ} 0 1 = cc in absurd (omega arith)
 not_decoded (Err k) n e = cc
 
 module _ (l : Method) (s : State) (slots : List ℕ) (framed : frame_check l s (length slots) ≡ Ok tt) where
-  pub by_fetch : (n : ℕ) → Decoded.Err (Refused n) ≡ decoded (fetched l.code s.pc) → decide_of l s slots ≡ Err (Refused n)
+  pub by_fetch : (n : Refusal) → Err n ≡ decoded (fetched l.code s.pc) → decide_of l s slots ≡ Err (Refused n)
   by_fetch n e = refused_by_fetch l (length slots) s (frame s slots) framed n (not_decoded (fetched l.code s.pc) n e)
 
   -- ---- questions 6 to 10
 
   module _ (entry size index constant : ℕ) (d : Decodes l.code s.pc entry size index constant) where
-    says : (x : Placed) → x ≡ place_of entry index s → Says l s d.i x
+    says : (x : Check Placed) → x ≡ place_of entry index s → Says l s d.i x
     says x e = rw (e, d.entered, d.indexed) (place_says l.code s.pc d.i (fetched_sound l.code s.pc d.i d.at) s l)
 
-    pub by_needs : (n : ℕ) → Placed.Err (Refused n) ≡ place_of entry index s → decide_of l s slots ≡ Err (Refused n)
-    by_needs n e = refused_by_needs l (length slots) s (frame s slots) framed d.i d.at n (says (Placed.Err (Refused n)) e)
+    pub by_needs : (n : Refusal) → Err n ≡ place_of entry index s → decide_of l s slots ≡ Err (Refused n)
+    by_needs n e = refused_by_needs l (length slots) s (frame s slots) framed d.i d.at n (says (Err n) e)
 
-    pub by_located : l.handlers ≡ [] → (first depth : ℕ) → Placed.At first depth ≡ place_of entry index s
-        → settled s.return_type (located_decision l.code l.kinds l.words slots s.pc (located_of entry index constant (s.pc + size) first depth)) ≡ decide_of l s slots
+    pub by_located : l.handlers ≡ [] → (first depth : ℕ) → Ok (record { base = first; depth = depth }) ≡ place_of entry index s
+        → settled s.return_type (located_decision l slots s.pc (located_of entry index constant (s.pc + size) first depth)) ≡ decide_of l s slots
     by_located bare first depth e =
-        rw (d.entered, d.sized, d.indexed, d.as_word) (located_decides l bare s slots framed d.i d.at first depth (says (Placed.At first depth) e))
+        rw (d.entered, d.sized, d.indexed, d.as_word) (located_decides l bare s slots framed d.i d.at first depth (says (Ok (record { base = first; depth = depth })) e))
 
     pub next_small : s.pc + size ≤ 65535
     next_small =
@@ -96,11 +96,11 @@ module _ (l : Method) (s : State) (slots : List ℕ) (framed : frame_check l s (
 -- ---- question 10
 
 -- a target is no further than the code reaches
-pub target_reach : (code : List ℕ) (z : ℤ) (t : Target) → t ≡ target_of (inside code z) → length code ≤ 65535 → reach t ≤ 65535
-unfolding target_of ◌else◌ ◌>>◌
+pub target_reach : (code : List ℕ) (z : ℤ) (t : Check ℕ) → t ≡ inside code z → length code ≤ 65535 → reach t ≤ 65535
+unfolding ◌else◌ ◌>>◌
 target_reach code (negsuc m) t e short = rw e (omega arith)
 target_reach code (pos m) t e short = rw e (go (ltb m (length code)) refl)
   where
-    go : (b : Bool) → ltb m (length code) ≡ b → reach (target_of ((b else Refusal.Target) >> Ok m)) ≤ 65535
+    go : (b : Bool) → ltb m (length code) ≡ b → reach ((b else Refusal.Target) >> Ok m) ≤ 65535
     go true h = omega (arith, ltb-true m (length code) h)
     go false h = omega arith

@@ -17,16 +17,15 @@ use Rattle.rules.specs.Instructions.{row_of}
 use Rattle.rules.specs.Fetch.{Instruction, operands, fetched}
 use Rattle.rules.specs.Questions.{Method, popped, pushed, frame_check, needs_check}
 use Rattle.rules.specs.Handlers.{handler_from}
-use Rattle.rules.specs.Step.{frame, base, words_at, update, inside, ordinary, following, target, thrown_at, outcome, decision, decide_of}
+use Rattle.rules.specs.Step.{six, frame, base, words_at, update, inside, ordinary, following, target, thrown_at, outcome, decision, decide_of}
 use Rattle.rules.proofs.Rows.{works}
 use Rattle.rules.proofs.Fetched.{Sound}
 use Rattle.rules.proofs.Step.{result, decided}
-use Rattle.operands.specs.Target.{target_of}
 use Rattle.operands.specs.Switch.{offset_in, table_offset, lookup_offset}
 use Rattle.instructions.specs.Table.{is_in, shared_of, entry_of, shared_in}
 use Rattle.instructions.proofs.Entries.{entry_bytes}
 use Rattle.effects.specs.declared.outcome.Effect.{Effect}
-use Rattle.effects.specs.Effects.{six, effect_of, effect_at}
+use Rattle.effects.specs.Effects.{effect_of, effect_at}
 use Rattle.effects.specs.Families.{shared_opcodes}
 use Rattle.effects.proofs.OwnRow.{own_effect_lem, shared_listed}
 use Rattle.frame.proofs.Needs.{Stands, pushed_in, locals_in_lem}
@@ -41,13 +40,13 @@ use Rattle.rules.specs.declared.halts.Halt.TheVariants.{Throw}
 
 module _ (l : Method) (s : State) (i : Instruction) where
   ordinary_is : (to : ℤ) (at n : ℕ) (ws : List ℕ)
-      → decision (ordinary l s i to at n ws) ≡ settled s.return_type (ordinary_to (target_of (inside l.code to)) (s.depth - popped i + pushed i) at n (six ws))
-  unfolding ◌>>=◌ target_of ordinary_to
+      → decision (ordinary l s i to at n ws) ≡ settled s.return_type (ordinary_to (inside l.code to) (s.depth - popped i + pushed i) at n (six ws))
+  unfolding ◌>>=◌ ordinary_to
   ordinary_is to at n ws = go (inside l.code to)
     where
       go : (x : Check ℕ)
           → decision (x >>= λ pc. Ok (Ok (update pc (s.depth - popped i + pushed i) at n ws)))
-          ≡ settled s.return_type (ordinary_to (target_of x) (s.depth - popped i + pushed i) at n (six ws))
+          ≡ settled s.return_type (ordinary_to x (s.depth - popped i + pushed i) at n (six ws))
       go (Ok pc) = refl
       go (Err n) = refl
 
@@ -70,7 +69,7 @@ module _ (l : Method) (s : State) (i : Instruction) where
     finished_by (stores ws) h = rw (h.next, h.deep, h.first, h.many) (sym (ordinary_is (following s i) i.operand.index (places_of i.rule.locals) ws))
     finished_by (divides by ws) h = go (eqb by 0)
       where
-        go : (t : Bool) → settled s.return_type (finish_of l.code s.pc i' key (cond t Effect.(Err Throw) (Effect.Words (six ws)))) ≡ decision (cond t (thrown_at l s s.pc) (ordinary l s i (following s i) (base s i) (pushed i) ws))
+        go : (t : Bool) → settled s.return_type (finish_of l.code s.pc i' key (cond t Effect.Throw (Effect.Words (six ws)))) ≡ decision (cond t (thrown_at l s s.pc) (ordinary l s i (following s i) (base s i) (pushed i) ws))
         go true = sym uncaught
         go false = rw (h.next, h.deep, h.first, h.many) (sym (ordinary_is (following s i) (base s i) (pushed i) ws))
     finished_by (branches t y) h = rw (h.next, h.deep, h.offset) (sym (ordinary_is (cond t (target s y) (following s i)) 0 0 []))

@@ -1,5 +1,4 @@
 -- Laws that other crates cite
-use Rattle.rules.specs.Decisions.{Decision}
 pub mod Steps
 -- Laws for this crate's functions
 mod Results

@@ -3,10 +3,7 @@ use Prim.Native.Nat.{ℕ, zero, suc, ◌+◌, ◌-◌, ◌≤◌}
 use mathlib.Core.Path.{◌≡◌, refl, sym, ap, ◌∙◌}
 use mathlib.Core.Bool.{Bool, true, false, cond}
 use mathlib.Core.List.{List, [], ◌∷◌}
-use mathlib.Core.Logic.{⊎_elim}
 use native.Mathlib.Omega.{arith}
-use types.Run.{OneOf}
-use denote.Enum.Declared.{tag_of}
 use lib.Dec.{leb, eqb}
 use lib.IntN.{ℤ, pos}
 use lib.ListN.{length}
@@ -14,12 +11,12 @@ use Rattle.values.specs.declared.Value.{Value}
 use Rattle.values.specs.Kinds.{places_of}
 use Rattle.rules.specs.declared.states.State.{State}
 use Rattle.rules.specs.declared.updates.Update.{Update}
-use Rattle.rules.specs.contracts.Decision.{the_type}
 use Rattle.rules.specs.Check.{Check, ◌else◌, ◌>>=◌, ◌>>◌}
 use Rattle.rules.specs.Forms.{Result, pushes, stores, divides, branches, returns, Source, stack, local, pool}
 use Rattle.rules.specs.Fetch.{Instruction, fetched}
 use Rattle.rules.specs.Returns.{returned}
 use Rattle.rules.specs.Questions.{Method, method, pushed, frame_check, needs_check}
+use Rattle.rules.specs.Lent.{plain}
 use Rattle.rules.specs.Handlers.{handler_from, handler_at}
 use Rattle.rules.specs.Step.{frame, base, words_at, update, inside, ordinary, following, target, thrown_to, thrown_at, outcome, decision, decide_frame, decide_of, moved, written}
 use Rattle.rules.proofs.Questions.{frame_passed}
@@ -34,31 +31,20 @@ use Rattle.rules.specs.declared.refusals.Refusal.{Refusal}
 use Rattle.rules.specs.declared.halts.Halt.TheVariants.{Return, Throw, Refused}
 use Rattle.rules.specs.Decisions.{Decision}
 
--- the method without its handlers
-abbrev pub bare : Method → Method
-bare l = method l.code l.kinds l.words []
-
 -- questions 1 to 3 do not look at them
-pub bare_framed : (l : Method) (s : State) (n : ℕ) → frame_check l s n ≡ Ok tt → frame_check (bare l) s n ≡ Ok tt
+pub plain_framed : (l : Method) (s : State) (n : ℕ) → frame_check l s n ≡ Ok tt → frame_check (plain l) s n ≡ Ok tt
 unfolding frame_check
-bare_framed l s n f = f
+plain_framed l s n f = f
 
 no_handlers : (handlers : List ℕ) → length handlers ≡ 0 → handlers ≡ []
 no_handlers [] e = refl
 no_handlers (h ∷ hs) e = absurd (omega arith)
 
 -- and a method that has none is the same without them
-pub without_handlers : (l : Method) → length l.handlers ≡ 0 → (most n : ℕ) (s : State) (slots : List ℕ) → advance_from (bare l) (most - n) n s slots ≡ advance_from l (most - n) n s slots
+pub without_handlers : (l : Method) → length l.handlers ≡ 0 → (most n : ℕ) (s : State) (slots : List ℕ) → advance_from (plain l) (most - n) n s slots ≡ advance_from l (most - n) n s slots
 without_handlers l e most n s slots = ap (λ (h : List ℕ). advance_from (method l.code l.kinds l.words h) (most - n) n s slots) (sym (no_handlers l.handlers e))
 
 -- ---- one decision
-
--- a decision that is no throw, as `let .. else` leaves it, is none of the handlers' business
-pub caught_other : (l : Method) (s : State) (d : Decision) → OneOf (0 ∷ 1 ∷ 3 ∷ []) (tag_of the_type d) → d ≡ caught l s d
-caught_other l s (Ok u) h = refl
-caught_other l s (Err (Return v)) h = refl
-caught_other l s (Err Throw) h = absurd (⊎_elim (λ z. omega arith) (⊎_elim (λ z. omega arith) (λ z. omega arith)) h)
-caught_other l s (Err (Refused n)) h = refl
 
 module _ (l : Method) (s : State) where
   -- question 32 may be asked before or after
@@ -85,7 +71,7 @@ module _ (l : Method) (s : State) where
   caught_settled (Err (Refused n)) = refl
 
   module _ (i : Instruction) where
-    ordinary_caught : (to : ℤ) (at n : ℕ) (ws : List ℕ) → decision (ordinary l s i to at n ws) ≡ caught l s (decision (ordinary (bare l) s i to at n ws))
+    ordinary_caught : (to : ℤ) (at n : ℕ) (ws : List ℕ) → decision (ordinary l s i to at n ws) ≡ caught l s (decision (ordinary (plain l) s i to at n ws))
     unfolding ◌>>=◌
     ordinary_caught to at n ws = go (inside l.code to) _
       where
@@ -93,7 +79,7 @@ module _ (l : Method) (s : State) where
         go (Ok pc) f = refl
         go (Err n) f = refl
 
-    outcome_caught : (r : Result) → decision (outcome l s i r) ≡ caught l s (decision (outcome (bare l) s i r))
+    outcome_caught : (r : Result) → decision (outcome l s i r) ≡ caught l s (decision (outcome (plain l) s i r))
     unfolding thrown_at handler_from ◌>>=◌
     outcome_caught (pushes ws) = ordinary_caught (following s i) (base s i) (pushed i) ws
     outcome_caught (stores ws) = ordinary_caught (following s i) i.operand.index (places_of i.rule.locals) ws
@@ -101,7 +87,7 @@ module _ (l : Method) (s : State) where
       where
         go : (t : Bool)
             → decision (cond t (thrown_at l s s.pc) (ordinary l s i (following s i) (base s i) (pushed i) ws))
-            ≡ caught l s (decision (cond t (thrown_at (bare l) s s.pc) (ordinary (bare l) s i (following s i) (base s i) (pushed i) ws)))
+            ≡ caught l s (decision (cond t (thrown_at (plain l) s s.pc) (ordinary (plain l) s i (following s i) (base s i) (pushed i) ws)))
         go true = refl
         go false = ordinary_caught (following s i) (base s i) (pushed i) ws
     outcome_caught (branches t z) = ordinary_caught (cond t (target s z) (following s i)) 0 0 []
@@ -112,7 +98,7 @@ module _ (l : Method) (s : State) where
         go (Err n) = refl
 
   -- it works on the same words
-  words_same : (i : Instruction) (words : List ℕ) (p : Source) → words_at p l s words i ≡ words_at p (bare l) s words i
+  words_same : (i : Instruction) (words : List ℕ) (p : Source) → words_at p l s words i ≡ words_at p (plain l) s words i
   words_same i words stack = refl
   words_same i words local = refl
   words_same i words pool = refl
@@ -128,12 +114,12 @@ module _ (l : Method) (s : State) where
   bound_caught (Err n) f g h = refl
 
   -- THE LAW: what is decided without handlers, by the handlers, is what is decided with them
-  pub decide_caught : (slots : List ℕ) → decide_of l s slots ≡ caught l s (decide_of (bare l) s slots)
+  pub decide_caught : (slots : List ℕ) → decide_of l s slots ≡ caught l s (decide_of (plain l) s slots)
   unfolding decide_frame frame_check needs_check
   decide_caught slots =
       after_caught (frame_check l s (length slots)) _ _
       (bound_caught (fetched l.code s.pc) _ _ (λ i. after_caught (needs_check l s i) _ _
-      (outcome_caught i (result l s (frame s slots) i) ∙ ap (λ (r : Result). caught l s (decision (outcome (bare l) s i r))) (ap (i.rule.does i.operand) (words_same i (frame s slots) i.rule.reads)))))
+      (outcome_caught i (result l s (frame s slots) i) ∙ ap (λ (r : Result). caught l s (decision (outcome (plain l) s i r))) (ap (i.rule.does i.operand) (words_same i (frame s slots) i.rule.reads)))))
 
 -- ---- plain steps
 
@@ -143,25 +129,25 @@ pub record Plain (l : Method) (k n : ℕ) (s : State) (slots : List ℕ) (r : Re
   pub upto : r.steps ≤ n + k
   pub long : length r.slots ≡ length slots
   pub framed : frame_check l r.state (length r.slots) ≡ Ok tt
-  pub decides : r.decision ≡ decide_of (bare l) r.state r.slots
+  pub decides : r.decision ≡ decide_of (plain l) r.state r.slots
   pub leads : advance_from l k n s slots ≡ advance_from l (n + k - r.steps) r.steps r.state r.slots
 
 module _ (l : Method) where
-  plain_stays : (k n : ℕ) (s : State) (slots : List ℕ) → frame_check l s (length slots) ≡ Ok tt → (d : Decision) → decide_of (bare l) s slots ≡ d → Plain l k n s slots (stands s n slots d)
+  plain_stays : (k n : ℕ) (s : State) (slots : List ℕ) → frame_check l s (length slots) ≡ Ok tt → (d : Decision) → decide_of (plain l) s slots ≡ d → Plain l k n s slots (stands s n slots d)
   plain_stays k n s slots f d e =
       let left : n + k - n ≡ k = omega arith in
       record { from = omega arith; upto = omega arith; long = refl; framed = f; decides = sym e; leads = rw left }
 
   plain_moves : (k n : ℕ) (s : State) (slots : List ℕ) → frame_check l s (length slots) ≡ Ok tt
-      → ((t : State) (after : List ℕ) → frame_check l t (length after) ≡ Ok tt → Plain l k (suc n) t after (advance_from (bare l) k (suc n) t after))
-      → (u : Update) → decide_of (bare l) s slots ≡ Ok u → Plain l (suc k) n s slots (advance_from (bare l) k (suc n) (moved s u.pc u.depth 0) (written u slots))
+      → ((t : State) (after : List ℕ) → frame_check l t (length after) ≡ Ok tt → Plain l k (suc n) t after (advance_from (plain l) k (suc n) t after))
+      → (u : Update) → decide_of (plain l) s slots ≡ Ok u → Plain l (suc k) n s slots (advance_from (plain l) k (suc n) (moved s u.pc u.depth 0) (written u slots))
   unfolding advance_from
   plain_moves k n s slots f more u e =
       let o : decide_of l s slots ≡ Ok u = decide_caught l s slots ∙ ap (caught l s) e in
       let legal = ordinary_legal l s slots u o in
       let same = written_length l s slots u legal in
       let p = more (moved s u.pc u.depth 0) (written u slots) (rw same (frame_passed l (moved s u.pc u.depth 0) (length slots) (still_framed l s (length slots) u legal 0))) in
-      let r = advance_from (bare l) k (suc n) (moved s u.pc u.depth 0) (written u slots) in
+      let r = advance_from (plain l) k (suc n) (moved s u.pc u.depth 0) (written u slots) in
       let left : suc n + k - r.steps ≡ n + suc k - r.steps = omega arith in
       record {
         from = omega (arith, p.from);
@@ -173,18 +159,16 @@ module _ (l : Method) where
       }
 
   plain_by : (k n : ℕ) (s : State) (slots : List ℕ) → frame_check l s (length slots) ≡ Ok tt
-      → ((t : State) (after : List ℕ) → frame_check l t (length after) ≡ Ok tt → Plain l k (suc n) t after (advance_from (bare l) k (suc n) t after))
-      → (d : Decision) → decide_of (bare l) s slots ≡ d → Plain l (suc k) n s slots (advance_from (bare l) (suc k) n s slots)
+      → ((t : State) (after : List ℕ) → frame_check l t (length after) ≡ Ok tt → Plain l k (suc n) t after (advance_from (plain l) k (suc n) t after))
+      → (d : Decision) → decide_of (plain l) s slots ≡ d → Plain l (suc k) n s slots (advance_from (plain l) (suc k) n s slots)
   unfolding advance_from
   plain_by k n s slots f more (Ok u) e = rw (e, advance_from) (plain_moves k n s slots f more u e)
-  plain_by k n s slots f more (Err (Return v)) e = rw (e, advance_from) (plain_stays (suc k) n s slots f (Err (Return v)) e)
-  plain_by k n s slots f more (Err Throw) e = rw (e, advance_from) (plain_stays (suc k) n s slots f (Err Throw) e)
-  plain_by k n s slots f more (Err (Refused m)) e = rw (e, advance_from) (plain_stays (suc k) n s slots f (Err (Refused m)) e)
+  plain_by k n s slots f more (Err h) e = rw (e, advance_from) (plain_stays (suc k) n s slots f (Err h) e)
 
-  pub plain_steps : (k n : ℕ) (s : State) (slots : List ℕ) → frame_check l s (length slots) ≡ Ok tt → Plain l k n s slots (advance_from (bare l) k n s slots)
+  pub plain_steps : (k n : ℕ) (s : State) (slots : List ℕ) → frame_check l s (length slots) ≡ Ok tt → Plain l k n s slots (advance_from (plain l) k n s slots)
   unfolding advance_from
-  plain_steps zero n s slots f = plain_stays zero n s slots f (decide_of (bare l) s slots) refl
-  plain_steps (suc k) n s slots f = plain_by k n s slots f (λ t after g. plain_steps k (suc n) t after g) (decide_of (bare l) s slots) refl
+  plain_steps zero n s slots f = plain_stays zero n s slots f (decide_of (plain l) s slots) refl
+  plain_steps (suc k) n s slots f = plain_by k n s slots f (λ t after g. plain_steps k (suc n) t after g) (decide_of (plain l) s slots) refl
 
 -- the loop stands where they led
 pub plain_going : (l : Method) (slots₀ : List ℕ) (most : ℕ) (s₀ : State) (slots : List ℕ) (s : State) (n : ℕ) → Going l slots₀ 0 most s₀ slots s n → (r : Reached) → Plain l (most - n) n s slots r

@@ -25,7 +25,6 @@ use Rattle.const_pool.specs.Constant.{found, constant_of}
 use Rattle.frame.proofs.Needs.{Stands}
 use Rattle.return_types.specs.Settled.{settled}
 use Rattle.interpreter.specs.Stages.{located_of, four_at, from_pool, read_of, read_decision, located_decision}
-use Rattle.interpreter.specs.declared.reading.Read.TheVariants as Read
 use Rattle.interpreter.proofs.Results.{source_of, row_reads, constant_kinds, row_constants, constant_given, row_given}
 use Rattle.interpreter.proofs.FewWords.{few_of_first}
 use Rattle.interpreter.proofs.Constants.{constant_within}
@@ -59,7 +58,7 @@ module _ (l : Method) (bare : l.handlers ≡ []) (s : State) (slots : List ℕ) 
     unfolding ◌else◌
     needs_pass = st.asked ∙ rw no_constant refl
 
-    on_stack : i.rule.reads ≡ stack → settled s.return_type (read_decision l.code s.pc (located_at s i first depth) (Read.Words (four_at slots first))) ≡ decide_of l s slots
+    on_stack : i.rule.reads ≡ stack → settled s.return_type (read_decision l.code s.pc (located_at s i first depth) (Ok (four_at slots first))) ≡ decide_of l s slots
     unfolding located_of
     on_stack e =
         let n = needed l s i needs_pass in
@@ -68,7 +67,7 @@ module _ (l : Method) (bare : l.handlers ≡ []) (s : State) (slots : List ℕ) 
         from_words l s i sound first depth st bare slots passes at needs_pass _ _ _ _
         (rw (e, ← st.based) (few_of_first slots (s.max_locals + s.max_stack) (base s i) (popped i) k f.room (λ h. omega arith)))
 
-    in_local : i.rule.reads ≡ local → settled s.return_type (read_decision l.code s.pc (located_at s i first depth) (Read.Words (four_at slots i.operand.index))) ≡ decide_of l s slots
+    in_local : i.rule.reads ≡ local → settled s.return_type (read_decision l.code s.pc (located_at s i first depth) (Ok (four_at slots i.operand.index))) ≡ decide_of l s slots
     unfolding located_of
     in_local e =
         let n = needed l s i needs_pass in
@@ -108,10 +107,10 @@ module _ (l : Method) (bare : l.handlers ≡ []) (s : State) (slots : List ℕ) 
 
   -- ---- THE LAW: a located instruction comes to what the rules decide
 
-  pub located_decides : settled s.return_type (located_decision l.code l.kinds l.words slots s.pc (located_at s i first depth)) ≡ decide_of l s slots
+  pub located_decides : settled s.return_type (located_decision l slots s.pc (located_at s i first depth)) ≡ decide_of l s slots
   unfolding located_decision read_of located_of
   located_decides =
-      ap (λ (op : ℕ). settled s.return_type (read_decision l.code s.pc (located_at s i first depth) (read_of l.kinds l.words slots op i.operand.index first))) (shared_is l s i sound)
+      ap (λ (op : ℕ). settled s.return_type (read_decision l.code s.pc (located_at s i first depth) (read_of l slots op i.operand.index first))) (shared_is l s i sound)
       ∙ go (eqb op 18) refl (eqb op 20) refl (eqb op 21 || eqb op 22 || eqb op 132) refl
     where
       op : ℕ
@@ -121,7 +120,7 @@ module _ (l : Method) (bare : l.handlers ≡ []) (s : State) (slots : List ℕ) 
           → settled s.return_type (read_decision l.code s.pc (located_at s i first depth)
           (cond t (from_pool (constant_of l.kinds l.words i.operand.index int float))
           (cond u (from_pool (constant_of l.kinds l.words i.operand.index long double))
-          (cond v (Read.Words (four_at slots i.operand.index)) (Read.Words (four_at slots first))))))
+          (cond v (Ok (four_at slots i.operand.index)) (Ok (four_at slots first))))))
           ≡ decide_of l s slots
       go true p u q v r = in_pool_lem int float refl (omega arith) (rw p refl) (rw p refl) (reads_from pool (rw p refl))
       go false p true q v r = in_pool_lem long double refl (omega arith) (rw (p, q) refl) (rw (p, q) refl) (reads_from pool (rw (p, q) refl))

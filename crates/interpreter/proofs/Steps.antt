@@ -1,17 +1,13 @@
 -- Ordinary steps one after the other, on plain values: by their decisions, and one turn of their loop. Assumes nothing.
 use Prim.Native.Nat.{ℕ, zero, suc, ◌+◌, ◌-◌, ◌≤◌, ◌<◌}
-use mathlib.Core.Path.{◌≡◌, refl, sym, ap, ◌∙◌}
+use mathlib.Core.Path.{◌≡◌, refl, sym, ap, subst, ◌∙◌}
 use mathlib.Core.List.{List, [], ◌∷◌}
-use mathlib.Core.Logic.{⊎_elim, inl, inr}
 use native.Mathlib.Omega.{arith}
 use native.Mathlib.Numerals.{add-one}
-use types.Run.{OneOf}
-use denote.Enum.Declared.{tag_of}
 use lib.ListN.{length}
 use Rattle.values.specs.declared.Value.{Value}
 use Rattle.rules.specs.declared.states.State.{State}
 use Rattle.rules.specs.declared.updates.Update.{Update}
-use Rattle.rules.specs.contracts.Decision.{the_type}
 use Rattle.rules.specs.Check.{Check, ◌>>=◌}
 use Rattle.rules.specs.Returns.{returned}
 use Rattle.rules.specs.Questions.{Method, frame_check}
@@ -23,25 +19,28 @@ use Rattle.interpreter.specs.Advance.{Reached, stands, advance_from}
 use Rattle.std.specs.Prelude.{Ok, Err}
 use Rattle.rules.specs.declared.halts.Halt.TheVariants.{Return, Throw, Refused}
 use Rattle.rules.specs.Decisions.{Decision}
+use Rattle.rules.specs.declared.halts.Halt.{Halt}
 
--- a decision that is not ordinary, as `let .. else` leaves it
+-- a decision that is not ordinary
 abbrev pub Other : Decision → Type 0
-Other d = OneOf (1 ∷ 2 ∷ 3 ∷ []) (tag_of the_type d)
+Other d = (h : Halt) × (d ≡ Err h)
 
 pub not_other : (u : Update) → Other (Ok u) → ⊥
-not_other u h = ⊎_elim (λ z. omega arith) (⊎_elim (λ z. omega arith) (λ z. omega arith)) h
+not_other u h = let e = h.1 in let z : ◌≡◌ {A = ℕ} 0 1 = cc in absurd (omega arith)
 
 -- and it stays another once question 32 is asked of a return
-pub settled_other : (t : ℕ) (d : Decision) → Other d → Other (settled t d)
+settled_halt : (t : ℕ) (h : Halt) → Other (settled t (Err h))
 unfolding ◌>>=◌
-settled_other t (Ok u) h = h
-settled_other t (Err (Return v)) h = go (returned t v)
+settled_halt t (Return v) = go (returned t v)
   where
     go : (x : Check Value) → Other (decision (x >>= λ r. Ok (Err (Return r))))
-    go (Ok r) = inl refl
-    go (Err n) = inr (inr refl)
-settled_other t (Err Throw) h = h
-settled_other t (Err (Refused n)) h = h
+    go (Ok r) = (_, refl)
+    go (Err n) = (_, refl)
+settled_halt t Throw = (_, refl)
+settled_halt t (Refused n) = (_, refl)
+
+pub settled_other : (t : ℕ) (d : Decision) → Other d → Other (settled t d)
+settled_other t d h = subst (λ (x : Decision). Other (settled t x)) (sym h.1) (settled_halt t h.0)
 
 -- ---- steps, by the first decision
 
@@ -55,9 +54,7 @@ module _ (l : Method) (n : ℕ) (s : State) (slots : List ℕ) where
   unfolding advance_from
   advance_other zero d e h = ap (stands s n slots) e
   advance_other (suc most) (Ok u) e h = absurd (not_other u h)
-  advance_other (suc most) (Err (Return v)) e h = rw (e, advance_from)
-  advance_other (suc most) (Err Throw) e h = rw (e, advance_from)
-  advance_other (suc most) (Err (Refused k)) e h = rw (e, advance_from)
+  advance_other (suc most) (Err h) e o = rw (e, advance_from)
 
   pub advance_none : advance_from l zero n s slots ≡ stands s n slots (decide_of l s slots)
   unfolding advance_from

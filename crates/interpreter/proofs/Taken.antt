@@ -2,7 +2,6 @@
 use Prim.Native.Nat.{ℕ, zero, suc, ◌+◌, ◌-◌}
 use mathlib.Core.Path.{◌≡◌, refl, sym, ap, subst, ◌∙◌}
 use mathlib.Core.List.{List}
-use mathlib.Core.Logic.{inl, inr}
 use lib.ListN.{length}
 use native.Mathlib.Omega.{arith}
 use native.Mathlib.Numerals.{add-one}
@@ -11,7 +10,7 @@ use Rattle.rules.specs.declared.updates.Update.{Update}
 use Rattle.rules.specs.Questions.{Method, frame_check}
 use Rattle.rules.specs.Step.{decide_of, core_machine, moved, written, step_by, step_of}
 use Rattle.rules.specs.Run.{Ran, ends, run_from, run_of, Account}
-use Rattle.rules.proofs.Step.{run_ordinary, run_return, run_throw, run_refused, run_stopped}
+use Rattle.rules.proofs.Step.{run_ordinary, run_halted, run_stopped}
 use Rattle.rules.proofs.Run.{run_account}
 use Rattle.rules.proofs.Lawful.{core_lawful}
 use Rattle.rules.proofs.Legal.{Legal, ordinary_legal}
@@ -19,8 +18,9 @@ use Rattle.interpreter.specs.Advance.{Reached, advance_from}
 use Rattle.interpreter.specs.Taken.{end_of}
 use Rattle.interpreter.proofs.Steps.{Other, not_other, advance_ordinary, advance_other, advance_none, decided_there, slots_there}
 use Rattle.std.specs.Prelude.{Ok, Err, Some, None}
-use Rattle.rules.specs.declared.halts.Halt.TheVariants.{Return, Throw, Refused}
+use Rattle.rules.specs.declared.halts.Halt.TheVariants.{Refused, Return, Throw}
 use Rattle.rules.specs.Decisions.{Decision}
+use Rattle.rules.specs.declared.refusals.Refusal.{Refusal}
 
 -- ---- a step: no step before it
 
@@ -41,7 +41,7 @@ module _ (l : Method) (s : State) (slots : List ℕ) (r : Reached) (e : r ≡ ad
       go (Err Throw) o = refl
       go (Err (Refused n)) o = refl
 
-pub step_refused : (l : Method) (s : State) (slots : List ℕ) (n : ℕ) → decide_of l s slots ≡ Err (Refused n) → record { state = s; decision = Err (Refused n); slots = slots } ≡ step_of (core_machine l) s slots
+pub step_refused : (l : Method) (s : State) (slots : List ℕ) (n : Refusal) → decide_of l s slots ≡ Err (Refused n) → record { state = s; decision = Err (Refused n); slots = slots } ≡ step_of (core_machine l) s slots
 unfolding step_of
 step_refused l s slots n e = rw e
 
@@ -49,25 +49,19 @@ step_refused l s slots n e = rw e
 
 abbrev last_step : State → ℕ → List ℕ → Decision → Ran
 last_step s n slots (Ok u) = ends (moved s u.pc u.depth 0) (written u slots) (suc n) None
-last_step s n slots (Err (Return v)) = ends s slots n (Some (Return v))
-last_step s n slots (Err Throw) = ends s slots n (Some Throw)
-last_step s n slots (Err (Refused k)) = ends s slots n (Some (Refused k))
+last_step s n slots (Err h) = ends s slots n (Some h)
 
 abbrev last_of : Reached → Ran
 last_of r = last_step r.state r.steps r.slots r.decision
 
 last_other : (s : State) (n : ℕ) (slots : List ℕ) (d : Decision) → Other d → last_step s n slots d ≡ ends s slots n (end_of d)
 last_other s n slots (Ok u) h = absurd (not_other u h)
-last_other s n slots (Err (Return v)) h = refl
-last_other s n slots (Err Throw) h = refl
-last_other s n slots (Err (Refused k)) h = refl
+last_other s n slots (Err h) o = refl
 
 module _ (l : Method) where
   run_one : (n : ℕ) (s : State) (slots : List ℕ) (d : Decision) → decide_of l s slots ≡ d → run_from (core_machine l) 1 n s slots ≡ last_step s n slots d
   run_one n s slots (Ok u) e = run_ordinary (core_machine l) 0 n s slots u e ∙ run_stopped (core_machine l) (suc n) (moved s u.pc u.depth 0) (written u slots)
-  run_one n s slots (Err (Return v)) e = run_return (core_machine l) 0 n s slots v e
-  run_one n s slots (Err Throw) e = run_throw (core_machine l) 0 n s slots e
-  run_one n s slots (Err (Refused k)) e = run_refused (core_machine l) 0 n s slots k e
+  run_one n s slots (Err h) e = run_halted (core_machine l) 0 n s slots h e
 
   run_last : (most n : ℕ) (s : State) (slots : List ℕ) → run_from (core_machine l) (suc most) n s slots ≡ last_of (advance_from l most n s slots)
   run_last zero n s slots = run_one n s slots _ refl ∙ ap last_of (sym (advance_none l n s slots))
@@ -77,9 +71,7 @@ module _ (l : Method) where
           → ((u : Update) → run_from (core_machine l) (suc most) (suc n) (moved s u.pc u.depth 0) (written u slots) ≡ last_of (advance_from l most (suc n) (moved s u.pc u.depth 0) (written u slots)))
           → run_from (core_machine l) (suc (suc most)) n s slots ≡ last_of (advance_from l (suc most) n s slots)
       go (Ok u) e h = run_ordinary (core_machine l) (suc most) n s slots u e ∙ h u ∙ ap last_of (sym (advance_ordinary l n s slots most u e))
-      go (Err (Return v)) e h = run_return (core_machine l) (suc most) n s slots v e ∙ ap last_of (sym (advance_other l n s slots (suc most) (Err (Return v)) e (inl refl)))
-      go (Err Throw) e h = run_throw (core_machine l) (suc most) n s slots e ∙ ap last_of (sym (advance_other l n s slots (suc most) (Err Throw) e (inr (inl refl))))
-      go (Err (Refused k)) e h = run_refused (core_machine l) (suc most) n s slots k e ∙ ap last_of (sym (advance_other l n s slots (suc most) (Err (Refused k)) e (inr (inr refl))))
+      go (Err k) e h = run_halted (core_machine l) (suc most) n s slots k e ∙ ap last_of (sym (advance_other l n s slots (suc most) (Err k) e (_, refl)))
 
   -- the decision is that of the rules where the steps end
   decides_there : (most n : ℕ) (s : State) (slots : List ℕ) → let r = advance_from l most n s slots in r.decision ≡ decide_of l r.state r.slots
@@ -90,9 +82,7 @@ module _ (l : Method) where
           → ((u : Update) → let r = advance_from l most (suc n) (moved s u.pc u.depth 0) (written u slots) in r.decision ≡ decide_of l r.state r.slots)
           → let r = advance_from l (suc most) n s slots in r.decision ≡ decide_of l r.state r.slots
       go (Ok u) e h = rw (advance_ordinary l n s slots most u e) (h u)
-      go (Err (Return v)) e h = rw (advance_other l n s slots (suc most) (Err (Return v)) e (inl refl)) (sym e)
-      go (Err Throw) e h = rw (advance_other l n s slots (suc most) (Err Throw) e (inr (inl refl))) (sym e)
-      go (Err (Refused k)) e h = rw (advance_other l n s slots (suc most) (Err (Refused k)) e (inr (inr refl))) (sym e)
+      go (Err k) e h = rw (advance_other l n s slots (suc most) (Err k) e (_, refl)) (sym e)
 
 -- a run with a budget, from where all its steps but the last led
 module _ (l : Method) (budget : ℕ) (s : State) (slots : List ℕ) where
@@ -121,7 +111,7 @@ module _ (l : Method) (budget : ℕ) (s : State) (slots : List ℕ) where
   pub accounted : (r : Ran) → r ≡ run_of (core_machine l) budget s slots → (r ≡ run_of (core_machine l) budget s slots) × Account (core_machine l) budget s slots r
   accounted r e = (e, subst (Account (core_machine l) budget s slots) (sym e) (run_account (core_machine l) (core_lawful l) budget s slots))
 
-  pub refused_run : (k : ℕ) → frame_check l s (length slots) ≡ Err k → record { state = s; steps = 0; end = Some (Refused k); slots = slots } ≡ run_of (core_machine l) budget s slots
+  pub refused_run : (k : Refusal) → frame_check l s (length slots) ≡ Err k → record { state = s; steps = 0; end = Some (Refused k); slots = slots } ≡ run_of (core_machine l) budget s slots
   unfolding run_of
   refused_run k e = rw e
 

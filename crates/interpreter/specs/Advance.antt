@@ -3,7 +3,6 @@ use Rattle.std.specs.Prelude.{ℕ, zero, suc, List, Ok, Err}
 use Rattle.rules.specs.declared.states.State.{State}
 use Rattle.rules.specs.Questions.{Method}
 use Rattle.rules.specs.Step.{decide_of, moved, written}
-use Rattle.rules.specs.declared.halts.Halt.TheVariants.{Return, Throw, Refused}
 use Rattle.rules.specs.Decisions.{Decision}
 
 -- the state and the slots that steps led to, how many they were, and the decision of the next
@@ -22,7 +21,5 @@ advance_from l zero n s slots = stands s n slots (decide_of l s slots)
 advance_from l (suc most) n s slots =
     elim (decide_of l s slots) [
       | Ok u ↦ advance_from l most (suc n) (moved s u.pc u.depth 0) (written u slots)
-      | Err (Return v) ↦ stands s n slots (Err (Return v))
-      | (Err Throw) ↦ stands s n slots (Err Throw)
-      | Err (Refused k) ↦ stands s n slots (Err (Refused k))
+      | Err h ↦ stands s n slots (Err h)
     ]

@@ -1,45 +1,45 @@
 -- The step in the stages of the code, on an instruction that is decoded and placed: for the contracts of private functions, tied to the rules by
 -- proofs/Decision and proofs/Sources. Assumes nothing.
-use Rattle.std.specs.Prelude.{ℕ, ◌+◌, Bool, ◌||◌, cond, List, eqb, ℤ, pos, ◌+ℤ◌, get_or, Ok, Err}
+use Rattle.std.specs.Prelude.{ℕ, ◌+◌, Bool, ◌||◌, cond, List, [], ◌∷◌, eqb, ℤ, pos, ◌+ℤ◌, get_or, Ok, Err}
 use Rattle.values.specs.Kinds.{int, long, float, double}
 use Rattle.values.specs.Words.{meaning}
 use Rattle.rules.specs.declared.states.State.{State}
 use Rattle.rules.specs.Questions.{Method}
-use Rattle.rules.specs.Step.{first_place, inside, thrown_at, decision}
-use Rattle.operands.specs.declared.jump.Target.{Target}
-use Rattle.operands.specs.Target.{target_of}
+use Rattle.rules.specs.Check.{Check}
+use Rattle.rules.specs.Step.{six, first_place, inside, thrown_at, decision}
 use Rattle.operands.specs.Switch.{table_offset, lookup_offset}
 use Rattle.instructions.specs.Table.{pushes_in, locals_in, shared_in}
 use Rattle.const_pool.specs.declared.Constant.{Constant}
 use Rattle.const_pool.specs.Constant.{constant_of}
-use Rattle.effects.specs.declared.outcome.Six.{Six}
 use Rattle.effects.specs.declared.outcome.Effect.{Effect}
 use Rattle.effects.specs.Effects.{effect_at}
-use Rattle.interpreter.specs.declared.reading.Four.{Four}
-use Rattle.interpreter.specs.declared.reading.Read.{Read}
 use Rattle.interpreter.specs.declared.finishing.Located.{Located}
 use Rattle.rules.specs.declared.halts.Halt.TheVariants.{Return, Throw, Refused}
 use Rattle.rules.specs.Decisions.{Decision}
 
 -- ---- the words that it works on
 
-abbrev pub four : ℕ → ℕ → ℕ → ℕ → Four
-four a b c d = record { a = a; b = b; c = c; d = d }
+abbrev pub four : ℕ → ℕ → ℕ → ℕ → List ℕ
+four a b c d = a ∷ b ∷ c ∷ d ∷ []
 
-abbrev pub four_at : List ℕ → ℕ → Four
+abbrev pub four_at : List ℕ → ℕ → List ℕ
 four_at slots at = four (get_or slots at 0) (get_or slots (at + 1) 0) (get_or slots (at + 2) 0) (get_or slots (at + 3) 0)
 
-abbrev pub from_pool : Constant → Read
-from_pool (Constant.Found low high) = Read.Words (four low high 0 0)
-from_pool (Constant.Err (Refused n)) = Read.Err (Refused n)
+abbrev pub from_pool : Check Constant → Check (List ℕ)
+from_pool (Ok c) = Ok (four c.low c.high 0 0)
+from_pool (Err r) = Err r
+
+-- the loads and IINC read their local
+abbrev pub reads_local : ℕ → Bool
+reads_local op = eqb op 21 || eqb op 22 || eqb op 132
 
 -- by the shared opcode: a constant of the pool, the loads and IINC, and all others
-unfoldable pub read_of : List ℕ → List ℕ → List ℕ → ℕ → ℕ → ℕ → Read
-read_of kinds words slots op index base =
-    cond (eqb op 18) (from_pool (constant_of kinds words index int float))
-    (cond (eqb op 20) (from_pool (constant_of kinds words index long double))
-    (cond (eqb op 21 || eqb op 22 || eqb op 132) (Read.Words (four_at slots index))
-    (Read.Words (four_at slots base))))
+unfoldable pub read_of : Method → List ℕ → ℕ → ℕ → ℕ → Check (List ℕ)
+read_of l slots op index base =
+    cond (eqb op 18) (from_pool (constant_of l.kinds l.words index int float))
+    (cond (eqb op 20) (from_pool (constant_of l.kinds l.words index long double))
+    (cond (reads_local op) (Ok (four_at slots index))
+    (Ok (four_at slots base))))
 
 -- ---- where it goes, and its words
 
@@ -61,19 +61,15 @@ located_of entry index constant next base depth =
       many = cond (stores_to (shared_in entry)) (locals_in entry) (pushes_in entry);
     }
 
-abbrev pub no_words : Six
-no_words = record { w0 = 0; w1 = 0; w2 = 0; w3 = 0; w4 = 0; w5 = 0 }
-
 -- the place of a target, if it has one
-abbrev pub reach : Target → ℕ
-reach (Target.At n) = n
-reach (Target.Err (Refused n)) = 0
+abbrev pub reach : Check ℕ → ℕ
+reach (Ok n) = n
+reach (Err r) = 0
 
 -- by the answer to question 10
-unfoldable pub ordinary_to : Target → ℕ → ℕ → ℕ → Six → Decision
-ordinary_to (Target.At pc) depth first many w =
-    Ok (record { pc = pc; depth = depth; first = first_place first many; many = many; w0 = w.w0; w1 = w.w1; w2 = w.w2; w3 = w.w3; w4 = w.w4; w5 = w.w5 })
-ordinary_to (Target.Err (Refused n)) depth first many w = Err (Refused n)
+unfoldable pub ordinary_to : Check ℕ → ℕ → ℕ → ℕ → List ℕ → Decision
+ordinary_to (Ok pc) depth first many ws = Ok (record { pc = pc; depth = depth; first = first_place first many; many = many; words = ws })
+ordinary_to (Err r) depth first many ws = Err (Refused r)
 
 -- by how much a branch that is taken goes on: a switch by its key, any other by its constant
 unfoldable pub offset_at : List ℕ → ℕ → ℕ → ℕ → ℕ → ℤ
@@ -84,22 +80,22 @@ offset_at code pc op constant key =
 
 unfoldable pub branch_of : List ℕ → ℕ → Located → ℕ → Bool → Decision
 branch_of code pc i key taken =
-    ordinary_to (target_of (inside code (cond taken (pos pc +ℤ offset_at code pc i.op i.constant key) (pos i.next)))) i.depth 0 0 no_words
+    ordinary_to (inside code (cond taken (pos pc +ℤ offset_at code pc i.op i.constant key) (pos i.next))) i.depth 0 0 (six [])
 
 unfoldable pub finish_of : List ℕ → ℕ → Located → ℕ → Effect → Decision
-finish_of code pc i key (Effect.Words w) = ordinary_to (target_of (inside code (pos i.next))) i.depth i.first i.many w
-finish_of code pc i key Effect.(Err Throw) = (Err Throw)
+finish_of code pc i key (Effect.Words ws) = ordinary_to (inside code (pos i.next)) i.depth i.first i.many ws
+finish_of code pc i key Effect.Throw = Err Throw
 finish_of code pc i key (Effect.Branch taken) = branch_of code pc i key taken
-finish_of code pc i key (Effect.Err (Return v)) = Err (Return v)
+finish_of code pc i key (Effect.Return v) = Err (Return v)
 
 -- ---- both
 
-abbrev pub read_decision : List ℕ → ℕ → Located → Read → Decision
-read_decision code pc i (Read.Words w) = finish_of code pc i w.a (effect_at i.op i.constant w.a w.b w.c w.d)
-read_decision code pc i (Read.Err (Refused n)) = Err (Refused n)
+abbrev pub read_decision : List ℕ → ℕ → Located → Check (List ℕ) → Decision
+read_decision code pc i (Ok ws) = finish_of code pc i (get_or ws 0 0) (effect_at i.op i.constant (get_or ws 0 0) (get_or ws 1 0) (get_or ws 2 0) (get_or ws 3 0))
+read_decision code pc i (Err r) = Err (Refused r)
 
-unfoldable pub located_decision : List ℕ → List ℕ → List ℕ → List ℕ → ℕ → Located → Decision
-located_decision code kinds words slots pc i = read_decision code pc i (read_of kinds words slots i.op i.index i.base)
+unfoldable pub located_decision : Method → List ℕ → ℕ → Located → Decision
+located_decision l slots pc i = read_decision l.code pc i (read_of l slots i.op i.index i.base)
 
 -- ---- a throw, which a method without handlers does not catch, by the handlers
 

@@ -8,7 +8,6 @@ use Rattle.interpreter.specs.Advance as advance
 use Rattle.interpreter.specs.declared.advancing.Reached.{Reached}
 use Rattle.interpreter.specs.declared.stepping.Stepped.{Stepped}
 use Rattle.interpreter.specs.declared.running.Ran.{Ran}
-use Rattle.rules.specs.declared.halts.Halt.TheVariants.{Return, Throw, Refused}
 use Rattle.rules.specs.Decisions.{Decision, End}
 
 -- once question 32 is asked of the decision
@@ -24,9 +23,7 @@ ran r slots = record { state = r.state; steps = r.steps; end = r.end; slots = sl
 -- for the private functions of the run: what a decision that is not ordinary ends it with, and where it stands then
 abbrev pub end_of : Decision → End
 end_of (Ok u) = None
-end_of (Err (Return v)) = Some (Return v)
-end_of (Err Throw) = (Some Throw)
-end_of (Err (Refused n)) = Some (Refused n)
+end_of (Err h) = Some h
 
 abbrev pub ended_at : State → ℕ → End → Ran
 ended_at s steps e = record { state = run.uncounted s; steps = steps; end = e }

@@ -1,8 +1,8 @@
 // Ordinary steps, one after the other, and the decision of the next: the loop of `run_until_exception_or_return` (interpreter.rs). A step, a press of
 // forward and a run all come through here, so that the decision of a step is compiled into one loop.
-ghost use Rattle.std.specs.Prelude.{◌≡◌, [], length, ◌-◌, ◌≤◌};
-ghost use Rattle.rules.specs.Check.{passed};
-ghost use Rattle.rules.specs.Questions.{method, frame_check};
+ghost use Rattle.std.specs.Prelude.{◌≡◌, length, ◌-◌, ◌≤◌};
+ghost use Rattle.rules.specs.Lent.{lent, plain};
+ghost use Rattle.rules.specs.Questions.{frame_check};
 ghost use Rattle.interpreter.specs.Advance.{advance_from};
 ghost use Rattle.interpreter.specs.Taken.{reached};
 
@@ -10,7 +10,7 @@ use crate::catching::ask_handlers;
 use crate::deciding::decide_framed;
 use crate::stepping::moved;
 use frame::{check_frame, commit};
-use rules::{Checked, Decision, State};
+use rules::{Decision, Halt, Method, State};
 
 // The state that ordinary steps led to, how many they were, and what the next step comes to; nothing of that is written. A return has not been asked question 32 yet:
 // `settle` asks it where a step, a press or a run ends with one, and no turn of the loop has to.
@@ -21,30 +21,25 @@ pub struct Reached {
     pub decision: Decision,
 }
 
-// Steps of a method without handlers, up to a number of which some are taken already, where questions 1 to 3 have passed. They stay passed, and are asked no more.
-fn advance_plain(
-    code: &[u8],
-    kinds: &[u8],
-    words: &[u32],
-    slots: &mut [u32],
-    s: State,
-    taken: u64,
-    most: u64,
-) -> Reached
-    requires slots_value { frame_check (method code.now kinds.now words.now []) s (length slots.old) ≡ passed tt }
+// Steps of a method as if it had no handlers, up to a number of which some are taken already, where questions 1 to 3 have passed. They stay passed, and are asked no more.
+fn advance_plain(method: &Method, slots: &mut [u32], s: State, taken: u64, most: u64) -> Reached
+    requires slots_value { frame_check (plain (lent method.now)) s (length slots.old) ≡ Ok tt }
     requires taken_le_most { taken ≤ most }
-    ensures { reached result slots.new ≡ advance_from (method code.now kinds.now words.now []) (most - taken) taken s slots.old }
+    ensures { reached result slots.new ≡ advance_from (plain (lent method.now)) (most - taken) taken s slots.old }
 {
     let mut t = s;
     let mut steps = taken;
     loop {
-        let decision = decide_framed(code, kinds, words, slots, t);
-        let Decision::Ordinary(u) = decision else {
-            return Reached {
-                state: t,
-                steps,
-                decision,
-            };
+        let decision = decide_framed(method, slots, t);
+        let u = match decision {
+            Ok(u) => u,
+            Err(_) => {
+                return Reached {
+                    state: t,
+                    steps,
+                    decision,
+                };
+            }
         };
         if steps == most {
             return Reached {
@@ -61,36 +56,31 @@ fn advance_plain(
 
 // At most so many steps, where questions 1 to 3 have passed. Without handlers they are plain ones; with them, a throw that ended plain steps may be caught, and then more
 // of them follow.
-pub(crate) fn advance_framed(
-    code: &[u8],
-    kinds: &[u8],
-    words: &[u32],
-    handlers: &[u8],
-    slots: &mut [u32],
-    s: State,
-    most: u64,
-) -> Reached
-    requires { frame_check (method code.now kinds.now words.now handlers.now) s (length slots.old) ≡ passed tt }
-    ensures slots_after { reached result slots.new ≡ advance_from (method code.now kinds.now words.now handlers.now) most 0 s slots.old }
+pub(crate) fn advance_framed(method: &Method, slots: &mut [u32], s: State, most: u64) -> Reached
+    requires { frame_check (lent method.now) s (length slots.old) ≡ Ok tt }
+    ensures slots_after { reached result slots.new ≡ advance_from (lent method.now) most 0 s slots.old }
     ensures steps_le_most { result.steps ≤ most }
 {
-    if handlers.len() == 0 {
-        return advance_plain(code, kinds, words, slots, s, 0, most);
+    if method.handlers.len() == 0 {
+        return advance_plain(method, slots, s, 0, most);
     }
     let mut t = s;
     let mut steps: u64 = 0;
     loop {
-        let plain = advance_plain(code, kinds, words, slots, t, steps, most);
+        let plain = advance_plain(method, slots, t, steps, most);
         let decided = plain.decision;
         t = plain.state;
         steps = plain.steps;
-        let decision = ask_handlers(code, kinds, words, handlers, t, decided);
-        let Decision::Ordinary(u) = decision else {
-            return Reached {
-                state: t,
-                steps,
-                decision,
-            };
+        let decision = ask_handlers(method, t, decided);
+        let u = match decision {
+            Ok(u) => u,
+            Err(_) => {
+                return Reached {
+                    state: t,
+                    steps,
+                    decision,
+                };
+            }
         };
         if steps == most {
             return Reached {
@@ -105,30 +95,22 @@ pub(crate) fn advance_framed(
     }
 }
 
-// At most so many steps on any code, pool, handlers, slots and state; with 0, the decision alone. Without handlers a press is spared the call of `advance_framed`.
-pub fn advance(
-    code: &[u8],
-    kinds: &[u8],
-    words: &[u32],
-    handlers: &[u8],
-    slots: &mut [u32],
-    s: State,
-    most: u64,
-) -> Reached
-    ensures { reached result slots.new ≡ advance_from (method code.now kinds.now words.now handlers.now) most 0 s slots.old }
+// At most so many steps on any method, slots and state; with 0, the decision alone. Without handlers a press is spared the call of `advance_framed`.
+pub fn advance(method: &Method, slots: &mut [u32], s: State, most: u64) -> Reached
+    ensures { reached result slots.new ≡ advance_from (lent method.now) most 0 s slots.old }
 {
-    let asked = check_frame(code, kinds, words, slots, s);
+    let asked = check_frame(method, slots, s);
     match asked {
-        Checked::Refused(n) => Reached {
+        Err(refusal) => Reached {
             state: s,
             steps: 0,
-            decision: Decision::Refused(n),
+            decision: Err(Halt::Refused(refusal)),
         },
-        Checked::Passed => {
-            if handlers.len() == 0 {
-                return advance_plain(code, kinds, words, slots, s, 0, most);
+        Ok(()) => {
+            if method.handlers.len() == 0 {
+                return advance_plain(method, slots, s, 0, most);
             }
-            advance_framed(code, kinds, words, handlers, slots, s, most)
+            advance_framed(method, slots, s, most)
         }
     }
 }

@@ -1,15 +1,16 @@
 // What a step comes to, from what its instruction does: the next offset, with question 10, and where the words go.
-ghost use Rattle.std.specs.Prelude.{◌≡◌, true, ◌≤◌, length};
+ghost use Rattle.std.specs.Prelude.{◌≡◌, [], true, ◌≤◌, length};
 ghost use Rattle.values.specs.Kinds.{int};
 ghost use Rattle.values.specs.Words.{meaning};
 ghost use Rattle.rules.specs.Step.{first_place};
-ghost use Rattle.interpreter.specs.Stages.{no_words, reach, offset_at, ordinary_to, branch_of, finish_of, stores_to, located_of};
+ghost use Rattle.interpreter.specs.Stages.{reach, offset_at, ordinary_to, branch_of, finish_of, stores_to, located_of};
 
-use effects::{Effect, Six};
+use effects::Effect;
+use frame::Placed;
 use instructions::opcodes::*;
-use instructions::{locals_in, pushes_in, shared_in};
-use operands::{Target, inside, jump_relative, lookup_offset, table_offset};
-use rules::{Decision, Update};
+use instructions::{Decoded, locals_in, pushes_in, shared_in};
+use operands::{inside, jump_relative, lookup_offset, table_offset};
+use rules::{Decision, Halt, Refusal, Update};
 
 // An instruction that questions 4 to 8 have passed: its shared opcode, index and constant, the offset after it, its first place on
 // the stack, the new depth, and where its words go and how many.
@@ -29,63 +30,32 @@ pub(crate) struct Located {
 fn is_store(op: u8) -> bool
     ensures { result ≡ stores_to op }
 {
-    if op == ISTORE {
-        return true;
-    }
-    if op == LSTORE {
-        return true;
-    }
-    op == IINC
+    op == ISTORE || op == LSTORE || op == IINC
 }
 
-// An instruction of an entry of the table, with its operands, the offset after it and its place on the stack.
-pub(crate) fn locate(
-    entry: u64,
-    index: u32,
-    constant: u32,
-    next: usize,
-    base: u32,
-    depth: u32,
-) -> Located
-    ensures { result ≡ located_of entry index constant next base depth }
+// An instruction that is decoded and placed, with the offset after it.
+pub(crate) fn locate(i: Decoded, next: usize, placed: Placed) -> Located
+    ensures { result ≡ located_of i.entry i.index i.constant next placed.base placed.depth }
 {
-    let op = shared_in(entry);
+    let op = shared_in(i.entry);
+    let on_stack = Located {
+        op,
+        index: i.index,
+        constant: i.constant,
+        next,
+        base: placed.base,
+        depth: placed.depth,
+        first: placed.base,
+        many: pushes_in(i.entry),
+    };
     if is_store(op) {
         return Located {
-            op,
-            index,
-            constant,
-            next,
-            base,
-            depth,
-            first: index,
-            many: locals_in(entry),
+            first: i.index,
+            many: locals_in(i.entry),
+            ..on_stack
         };
     }
-    Located {
-        op,
-        index,
-        constant,
-        next,
-        base,
-        depth,
-        first: base,
-        many: pushes_in(entry),
-    }
-}
-
-// No words.
-fn no_words() -> Six
-    ensures { result ≡ no_words }
-{
-    Six {
-        w0: 0,
-        w1: 0,
-        w2: 0,
-        w3: 0,
-        w4: 0,
-        w5: 0,
-    }
+    on_stack
 }
 
 // Where nothing is written the first place is 0.
@@ -96,25 +66,24 @@ fn first_place(first: u32, many: u32) -> u32
 }
 
 // An ordinary step to a target, if it is in the code, with the first of some words written from a place on.
-fn ordinary_to(to: Target, depth: u32, first: u32, many: u32, w: Six) -> Decision
+fn ordinary_to(
+    to: Result<usize, Refusal>,
+    depth: u32,
+    first: u32,
+    many: u32,
+    words: [u32; 6],
+) -> Decision
     requires { reach to ≤ 65535 }
-    ensures { result ≡ ordinary_to to depth first many w }
+    ensures { result ≡ ordinary_to to depth first many words }
 {
-    match to {
-        Target::Refused(n) => Decision::Refused(n),
-        Target::At(pc) => Decision::Ordinary(Update {
-            pc: pc as u32,
-            depth,
-            first: first_place(first, many),
-            many,
-            w0: w.w0,
-            w1: w.w1,
-            w2: w.w2,
-            w3: w.w3,
-            w4: w.w4,
-            w5: w.w5,
-        }),
-    }
+    let pc = to?;
+    Ok(Update {
+        pc: pc as u32,
+        depth,
+        first: first_place(first, many),
+        many,
+        words,
+    })
 }
 
 // The offset of a branch that is taken: a switch looks its key up in the code, any other has it as its constant.
@@ -137,7 +106,7 @@ fn jump(code: &[u8], pc: u32, i: Located, key: u32) -> Decision
 {
     let offset = branch_offset(code, pc, i.op, i.constant, key);
     let to = jump_relative(code, pc, offset);
-    ordinary_to(to, i.depth, 0, 0, no_words())
+    ordinary_to(to, i.depth, 0, 0, [0, 0, 0, 0, 0, 0])
 }
 
 // A branch, taken or not.
@@ -149,7 +118,7 @@ fn branch(code: &[u8], pc: u32, i: Located, key: u32, taken: bool) -> Decision
         return jump(code, pc, i, key);
     }
     let to = inside(code, i.next);
-    ordinary_to(to, i.depth, 0, 0, no_words())
+    ordinary_to(to, i.depth, 0, 0, [0, 0, 0, 0, 0, 0])
 }
 
 // What the step comes to, of what its instruction does; `key` is the first word that it works on.
@@ -158,12 +127,12 @@ pub(crate) fn finish(code: &[u8], pc: u32, i: Located, key: u32, does: Effect) -
     ensures { result ≡ finish_of code.now pc i key does }
 {
     match does {
-        Effect::Words(w) => {
+        Effect::Words(words) => {
             let to = inside(code, i.next);
-            ordinary_to(to, i.depth, i.first, i.many, w)
+            ordinary_to(to, i.depth, i.first, i.many, words)
         }
-        Effect::Throw => Decision::Throw,
+        Effect::Throw => Err(Halt::Throw),
         Effect::Branch(taken) => branch(code, pc, i, key, taken),
-        Effect::Return(v) => Decision::Return(v),
+        Effect::Return(v) => Err(Halt::Return(v)),
     }
 }

@@ -1,93 +1,68 @@
 // The words that an instruction works on: in the pool, in its local, or on the operand stack.
 ghost use Rattle.std.specs.Prelude.{◌≡◌, get_or};
-ghost use Rattle.interpreter.specs.Stages.{four_at, from_pool, read_of};
+ghost use Rattle.rules.specs.Lent.{lent, plain};
+ghost use Rattle.interpreter.specs.Stages.{four_at, from_pool, reads_local, read_of};
 
 use const_pool::{Constant, ldc, ldc2_w};
 use instructions::opcodes::*;
-
-// Up to four words, lowest first; those past the number that an instruction works on are any.
-#[derive(Clone, Copy)]
-pub(crate) struct Four {
-    pub a: u32,
-    pub b: u32,
-    pub c: u32,
-    pub d: u32,
-}
-
-// The words, or the number of the question that refuses the constant.
-#[derive(Clone, Copy)]
-pub(crate) enum Read {
-    Words(Four),
-    Refused(u32),
-}
+use rules::{Method, Refusal};
 
 // The word at a place, and 0 past the end.
 fn word_at(slots: &[u32], place: usize) -> u32
     ensures { result ≡ get_or slots.now place 0 }
 {
-    if place < slots.len() { slots[place] } else { 0 }
+    slots.get(place).copied().unwrap_or(0)
 }
 
 // Four words from a place on: nearly always all are there.
-fn four_at(slots: &[u32], place: u32) -> Four
+fn four_at(slots: &[u32], place: u32) -> [u32; 4]
     ensures { result ≡ four_at slots.now place }
 {
     let at = place as usize;
     if at + 4 <= slots.len() {
-        return Four {
-            a: slots[at],
-            b: slots[at + 1],
-            c: slots[at + 2],
-            d: slots[at + 3],
-        };
+        return [slots[at], slots[at + 1], slots[at + 2], slots[at + 3]];
     }
     let a = word_at(slots, at);
     let b = word_at(slots, at + 1);
     let c = word_at(slots, at + 2);
     let d = word_at(slots, at + 3);
-    Four { a, b, c, d }
+    [a, b, c, d]
 }
 
 // The words of a constant.
-fn from_pool(found: Constant) -> Read
-    ensures { result ≡ from_pool found }
+fn from_pool(asked: Result<Constant, Refusal>) -> Result<[u32; 4], Refusal>
+    ensures { result ≡ from_pool asked }
 {
-    match found {
-        Constant::Found { low, high } => Read::Words(Four {
-            a: low,
-            b: high,
-            c: 0,
-            d: 0,
-        }),
-        Constant::Refused(n) => Read::Refused(n),
-    }
+    let found = asked?;
+    Ok([found.low, found.high, 0, 0])
 }
 
-// The words of an instruction with its shared opcode, its index and its first place on the stack.
+// Whether a shared opcode reads its local: the loads and IINC.
+fn reads_local(op: u8) -> bool
+    ensures { result ≡ reads_local op }
+{
+    op == ILOAD || op == LLOAD || op == IINC
+}
+
+// The words of an instruction with its shared opcode, its index and its first place on the stack: up to four, lowest first; those past the number that it works on are
+// any.
 pub(crate) fn read_words(
-    kinds: &[u8],
-    words: &[u32],
+    method: &Method,
     slots: &[u32],
     op: u8,
     index: u32,
     base: u32,
-) -> Read
-    ensures { result ≡ read_of kinds.now words.now slots.now op index base }
+) -> Result<[u32; 4], Refusal>
+    ensures { result ≡ read_of (plain (lent method.now)) slots.now op index base }
 {
     if op == LDC {
-        return from_pool(ldc(kinds, words, index));
+        return from_pool(ldc(method.kinds, method.words, index));
     }
     if op == LDC2_W {
-        return from_pool(ldc2_w(kinds, words, index));
+        return from_pool(ldc2_w(method.kinds, method.words, index));
     }
-    if op == ILOAD {
-        return Read::Words(four_at(slots, index));
+    if reads_local(op) {
+        return Ok(four_at(slots, index));
     }
-    if op == LLOAD {
-        return Read::Words(four_at(slots, index));
-    }
-    if op == IINC {
-        return Read::Words(four_at(slots, index));
-    }
-    Read::Words(four_at(slots, base))
+    Ok(four_at(slots, base))
 }

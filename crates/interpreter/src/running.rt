@@ -1,8 +1,8 @@
 // A run: ordinary steps, one after the other, up to a budget.
 ghost use Rattle.std.specs.Prelude.{◌≡◌, length};
-ghost use Rattle.rules.specs.Check.{passed};
-ghost use Rattle.rules.specs.Questions.{method, frame_check};
-ghost use Rattle.rules.specs.Step.{machine};
+ghost use Rattle.rules.specs.Lent.{lent};
+ghost use Rattle.rules.specs.Questions.{frame_check};
+ghost use Rattle.rules.specs.Step.{core_machine};
 ghost use Rattle.rules.specs.Run.{run_from, run_of, Account};
 ghost use Rattle.interpreter.specs.Taken.{ran, end_of, ended_at};
 
@@ -10,7 +10,7 @@ use crate::advancing::advance_framed;
 use crate::stepping::moved;
 use frame::{check_frame, commit};
 use return_types::settle;
-use rules::{Checked, Decision, End, State};
+use rules::{Decision, End, Halt, Method, State};
 
 // The state that a run reached, how many ordinary steps it took, and what ended it.
 #[derive(Clone, Copy)]
@@ -24,12 +24,7 @@ pub struct Ran {
 fn end_of(decision: Decision) -> End
     ensures { result ≡ end_of decision }
 {
-    match decision {
-        Decision::Ordinary(_) => End::Stopped,
-        Decision::Return(v) => End::Return(v),
-        Decision::Throw => End::Throw,
-        Decision::Refused(n) => End::Refused(n),
-    }
+    decision.err()
 }
 
 // A run that stands at a state after some steps: its count is 0.
@@ -41,27 +36,22 @@ fn ended(s: State, steps: u64, end: End) -> Ran
 }
 
 // At most budget steps, where questions 1 to 3 have passed: all but the last, and then the last. With no budget left there is no further look.
-fn run_framed(
-    code: &[u8],
-    kinds: &[u8],
-    words: &[u32],
-    handlers: &[u8],
-    slots: &mut [u32],
-    s: State,
-    budget: u64,
-) -> Ran
-    requires { frame_check (method code.now kinds.now words.now handlers.now) s (length slots.old) ≡ passed tt }
-    ensures { ran result slots.new ≡ run_from (machine code.now kinds.now words.now handlers.now) budget 0 s slots.old }
+fn run_framed(method: &Method, slots: &mut [u32], s: State, budget: u64) -> Ran
+    requires { frame_check (lent method.now) s (length slots.old) ≡ Ok tt }
+    ensures { ran result slots.new ≡ run_from (core_machine (lent method.now)) budget 0 s slots.old }
 {
     if budget == 0 {
-        return ended(s, 0, End::Stopped);
+        return ended(s, 0, None);
     }
-    let reached = advance_framed(code, kinds, words, handlers, slots, s, budget - 1);
+    let reached = advance_framed(method, slots, s, budget - 1);
     let t = reached.state;
     let decision = reached.decision;
-    let Decision::Ordinary(u) = decision else {
-        let end = end_of(settle(t.return_type, decision));
-        return ended(t, reached.steps, end);
+    let u = match decision {
+        Ok(u) => u,
+        Err(_) => {
+            let end = end_of(settle(t.return_type, decision));
+            return ended(t, reached.steps, end);
+        }
     };
     commit(slots, t, u);
     let state = moved(t, u.pc, u.depth, 0);
@@ -69,30 +59,22 @@ fn run_framed(
     Ran {
         state,
         steps,
-        end: End::Stopped,
+        end: None,
     }
 }
 
-// A run on any code, pool, handlers, slots and state: questions 1 to 3 come first, also with budget 0.
-pub fn run(
-    code: &[u8],
-    kinds: &[u8],
-    words: &[u32],
-    handlers: &[u8],
-    slots: &mut [u32],
-    s: State,
-    budget: u64,
-) -> Ran
-    ensures slots_after { ran result slots.new ≡ run_of (machine code.now kinds.now words.now handlers.now) budget s slots.old }
-    ensures account { Account (machine code.now kinds.now words.now handlers.now) budget s slots.old (ran result slots.new) }
+// A run on any method, slots and state: questions 1 to 3 come first, also with budget 0.
+pub fn run(method: &Method, slots: &mut [u32], s: State, budget: u64) -> Ran
+    ensures slots_after { ran result slots.new ≡ run_of (core_machine (lent method.now)) budget s slots.old }
+    ensures account { Account (core_machine (lent method.now)) budget s slots.old (ran result slots.new) }
 {
-    let asked = check_frame(code, kinds, words, slots, s);
+    let asked = check_frame(method, slots, s);
     match asked {
-        Checked::Refused(n) => Ran {
+        Err(refusal) => Ran {
             state: s,
             steps: 0,
-            end: End::Refused(n),
+            end: Some(Halt::Refused(refusal)),
         },
-        Checked::Passed => run_framed(code, kinds, words, handlers, slots, s, budget),
+        Ok(()) => run_framed(method, slots, s, budget),
     }
 }

@@ -10,10 +10,9 @@ use Rattle.rules.specs.Check.{Check}
 use Rattle.rules.specs.Questions.{frame_check}
 use Rattle.rules.specs.Step.{frame, Decided, Machine, decide_on, moved, written, cleared}
 use Rattle.rules.specs.Run.{Ran, ends, run_from, run_by, run_of, uncounted, steps_of, end_by, Ended, stopped, ended, Account, refused_first, walked}
-use Rattle.rules.proofs.Step.{run_ordinary, run_return, run_throw, run_refused}
+use Rattle.rules.proofs.Step.{run_ordinary, run_halted}
 use Rattle.rules.proofs.Lawful.{Lawful}
 use Rattle.std.specs.Prelude.{Ok, Err, Some, None}
-use Rattle.rules.specs.declared.halts.Halt.TheVariants.{Return, Throw, Refused}
 use Rattle.rules.specs.Decisions.{Decision, End}
 
 -- how k steps of a budget b, which led to these slots, ended
@@ -75,9 +74,7 @@ module _ (x : Machine) (law : Lawful x) where
           → ((u : Update) → Leads x b (suc n) (moved s u.pc u.depth 0) (cleared s (decide_on x s slots).scratch (written u slots)) (run_from x b (suc n) (moved s u.pc u.depth 0) (cleared s (decide_on x s slots).scratch (written u slots))))
           → Leads x (suc b) n s slots (run_from x (suc b) n s slots)
       go (Ok u) e h = rw (run_ordinary x b n s slots u e) (later b n s slots u _ e (h u))
-      go (Err (Return v)) e h = rw (run_return x b n s slots v e) (at_once b n s slots (Some (Return v)) (ap end_by e))
-      go (Err Throw) e h = rw (run_throw x b n s slots e) (at_once b n s slots (Some Throw) (ap end_by e))
-      go (Err (Refused k)) e h = rw (run_refused x b n s slots k e) (at_once b n s slots (Some (Refused k)) (ap end_by e))
+      go (Err k) e h = rw (run_halted x b n s slots k e) (at_once b n s slots (Some k) (ap end_by e))
 
   -- THE LAW: a run's account of itself
   pub run_account : (budget : ℕ) (s : State) (slots : List ℕ) → Account x budget s slots (run_of x budget s slots)

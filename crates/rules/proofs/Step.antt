@@ -17,7 +17,8 @@ use Rattle.rules.specs.Run.{ends, run_from}
 use Rattle.std.specs.Prelude.{Bool, true, false, ltb, Ok, Err, Some, None}
 use native.Mathlib.Omega.{arith}
 use Rattle.rules.specs.declared.refusals.Refusal.{Refusal}
-use Rattle.rules.specs.declared.halts.Halt.TheVariants.{Return, Throw, Refused}
+use Rattle.rules.specs.declared.halts.Halt.TheVariants.{Refused}
+use Rattle.rules.specs.declared.halts.Halt.{Halt}
 
 -- ---- question 10
 
@@ -70,17 +71,9 @@ module _ (x : Machine) (b n : ℕ) (s : State) (slots : List ℕ) where
   unfolding run_from
   run_ordinary u e = rw (e, run_from)
 
-  pub run_return : (v : Value) → (decide_on x s slots).decision ≡ Err (Return v) → run_from x (suc b) n s slots ≡ ends s (cleared s (decide_on x s slots).scratch slots) n (Some (Return v))
+  pub run_halted : (h : Halt) → (decide_on x s slots).decision ≡ Err h → run_from x (suc b) n s slots ≡ ends s (cleared s (decide_on x s slots).scratch slots) n (Some h)
   unfolding run_from
-  run_return v e = rw (e, run_from)
-
-  pub run_throw : (decide_on x s slots).decision ≡ (Err Throw) → run_from x (suc b) n s slots ≡ ends s (cleared s (decide_on x s slots).scratch slots) n (Some Throw)
-  unfolding run_from
-  run_throw e = rw (e, run_from)
-
-  pub run_refused : (k : Refusal) → (decide_on x s slots).decision ≡ Err (Refused k) → run_from x (suc b) n s slots ≡ ends s (cleared s (decide_on x s slots).scratch slots) n (Some (Refused k))
-  unfolding run_from
-  run_refused k e = rw (e, run_from)
+  run_halted h e = rw (e, run_from)
 
 -- with no budget left there is no further look
 pub run_stopped : (x : Machine) (n : ℕ) (s : State) (slots : List ℕ) → run_from x zero n s slots ≡ ends s slots n None

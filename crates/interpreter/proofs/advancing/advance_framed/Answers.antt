@@ -6,6 +6,7 @@ use native.Mathlib.Omega.{arith}
 use native.Mathlib.Nat.{sub-zero}
 use Rattle.rules.specs.declared.states.State.{State}
 use Rattle.rules.specs.Questions.{Method, method}
+use Rattle.rules.specs.Lent.{lent, plain}
 use Rattle.rules.specs.Step.{decide_of}
 use Rattle.rules.proofs.Legal.{ordinary_legal}
 use Rattle.return_types.specs.Settled.{settled}
@@ -13,74 +14,73 @@ use Rattle.interpreter.specs.Advance.{Reached, advance_from}
 use Rattle.interpreter.specs.Stages.{caught}
 use Rattle.interpreter.specs.Taken.{reached}
 use Rattle.interpreter.proofs.Steps.{Going, turn, ends_there, all_taken}
-use Rattle.interpreter.proofs.Plain.{bare, bare_framed, without_handlers, caught_settled, decide_caught, Plain, plain_steps, plain_going}
-use borrow.Enum.Refused.{opened}
+use Rattle.interpreter.proofs.Plain.{plain_framed, without_handlers, caught_settled, decide_caught, Plain, plain_steps, plain_going}
 use Rattle.interpreter.proofs.advancing.advance_framed.Goals as goal
-use Rattle.std.specs.Prelude.{Ok}
+use Rattle.std.specs.Prelude.{Ok, Err}
 use Rattle.rules.specs.Decisions.{Decision}
 
 -- where plain steps ended: what was decided there by the handlers is what the rules decide, and the steps that are left lead where all of them lead
 module _ (l : Method) (slots₀ : List ℕ) (most : ℕ) (s₀ : State) (slots : List ℕ) (s : State) (n : ℕ) (g : Going l slots₀ 0 most s₀ slots s n) where
-  module _ (r : Reached) (e : r ≡ advance_from (bare l) (most - n) n s slots) where
-    plain : Plain l (most - n) n s slots r
-    plain = rw e (plain_steps l (most - n) n s slots g.framed)
+  module _ (r : Reached) (e : r ≡ advance_from (plain l) (most - n) n s slots) where
+    led : Plain l (most - n) n s slots r
+    led = rw e (plain_steps l (most - n) n s slots g.framed)
 
     going : Going l slots₀ 0 most s₀ r.slots r.state r.steps
-    going = plain_going l slots₀ most s₀ slots s n g r plain
+    going = plain_going l slots₀ most s₀ slots s n g r led
 
     from : n ≤ r.steps
-    from = plain.from
+    from = led.from
 
     decides : (decided decision : Decision) → r.decision ≡ settled r.state.return_type decided → decision ≡ caught l r.state decided
         → settled r.state.return_type decision ≡ decide_of l r.state r.slots
     decides decided decision q h =
-        ap (settled r.state.return_type) h ∙ caught_settled l r.state decided ∙ ap (caught l r.state) (sym q ∙ plain.decides) ∙ sym (decide_caught l r.state r.slots)
+        ap (settled r.state.return_type) h ∙ caught_settled l r.state decided ∙ ap (caught l r.state) (sym q ∙ led.decides) ∙ sym (decide_caught l r.state r.slots)
 
 pub advance_plain-requires : goal.advance_plain-requires
-advance_plain-requires c = let p = c.requires in record { slots_value = bare_framed _ _ _ p; taken_le_most = omega arith }
+advance_plain-requires c = let p = c.requires in record { slots_value = plain_framed _ _ _ p; taken_le_most = omega arith }
 
-pub returns-then-handlers-eq0 : goal.returns-then-handlers-eq0
-returns-then-handlers-eq0 c = let a = c.args in
-    let l = method a.code.now a.kinds.now a.words.now a.handlers.now in
+pub returns-then-method-eq0 : goal.returns-then-method-eq0
+returns-then-method-eq0 c = let a = c.args in
+    let l = lent a.method.now in
     let p = plain_steps l (a.most - 0) 0 a.s a.slots.now c.requires in
     let r = c.advance_plain.result in
     let e = c.advance_plain.ensures in
-    record { slots_after = e ∙ without_handlers l c.if-handlers-eq0.true a.most 0 a.s a.slots.now ∙ rw (sub-zero a.most); steps_le_most = omega (arith, p.upto, ap (λ (x : Reached). x.steps) e) }
+    record { slots_after = e ∙ without_handlers l c.if-method-eq0.true a.most 0 a.s a.slots.now ∙ rw (sub-zero a.most); steps_le_most = omega (arith, p.upto, ap (λ (x : Reached). x.steps) e) }
 
 pub loop-u-init : goal.loop-u-init
 loop-u-init c = let p = c.requires in record { upto = omega arith; long = refl; framed = p; rest = refl }
 
 pub advance_plain-plain-requires : goal.advance_plain-plain-requires
-advance_plain-plain-requires c = let t = c.loop-u in record { slots_value = bare_framed _ _ _ t.invariant.framed; taken_le_most = t.invariant.upto }
+advance_plain-plain-requires c = let t = c.loop-u in record { slots_value = plain_framed _ _ _ t.invariant.framed; taken_le_most = t.invariant.upto }
 
-pub shape_of-slots-in_default : goal.shape_of-slots-in_default
-shape_of-slots-in_default c =
+pub shape_of-slots-in-Err : goal.shape_of-slots-in-Err
+shape_of-slots-in-Err c =
     let a = c.args in
-    let l = method a.code.now a.kinds.now a.words.now a.handlers.now in
+    let l = lent a.method.now in
     let t = c.loop-u in
     let p = c.advance_plain-plain in
     let r = reached p.result p.new.slots in
     let g = going l a.slots.now a.most a.s t.slots t.t t.steps t.invariant r p.ensures in
     g.long
 
-pub returns-in_default : goal.returns-in_default
-returns-in_default c =
+pub returns-in-Err : goal.returns-in-Err
+returns-in-Err c =
     let a = c.args in
-    let l = method a.code.now a.kinds.now a.words.now a.handlers.now in
+    let l = lent a.method.now in
     let t = c.loop-u in
     let p = c.advance_plain-plain in
     let r = reached p.result p.new.slots in
     let g = going l a.slots.now a.most a.s t.slots t.t t.steps t.invariant r p.ensures in
     let d = decides l a.slots.now a.most a.s t.slots t.t t.steps t.invariant r p.ensures p.result.decision c.ask_handlers-decision.result refl c.ask_handlers-decision.ensures in
     record {
-      slots_after = ends_there _ _ _ _ _ r.slots r.state r.steps g c.ask_handlers-decision.result d (opened c.in_default.in_default-own.keys2) ∙ rw (sub-zero a.most);
+      slots_after = ends_there _ _ _ _ _ r.slots r.state r.steps g c.ask_handlers-decision.result d (_, c.in-Err.is) ∙ rw (sub-zero a.most);
       steps_le_most = g.upto;
     }
 
 pub shape_of-slots-then-steps-most : goal.shape_of-slots-then-steps-most
 shape_of-slots-then-steps-most c =
     let a = c.args in
-    let l = method a.code.now a.kinds.now a.words.now a.handlers.now in
+    let l = lent a.method.now in
     let t = c.loop-u in
     let p = c.advance_plain-plain in
     let r = reached p.result p.new.slots in
@@ -90,7 +90,7 @@ shape_of-slots-then-steps-most c =
 pub returns-then-steps-most : goal.returns-then-steps-most
 returns-then-steps-most c =
     let a = c.args in
-    let l = method a.code.now a.kinds.now a.words.now a.handlers.now in
+    let l = lent a.method.now in
     let t = c.loop-u in
     let p = c.advance_plain-plain in
     let r = reached p.result p.new.slots in
@@ -104,7 +104,7 @@ returns-then-steps-most c =
 pub commit-requires : goal.commit-requires
 commit-requires c =
     let a = c.args in
-    let l = method a.code.now a.kinds.now a.words.now a.handlers.now in
+    let l = lent a.method.now in
     let t = c.loop-u in
     let p = c.advance_plain-plain in
     let r = reached p.result p.new.slots in
@@ -116,7 +116,7 @@ commit-requires c =
 pub overflow_add-steps : goal.overflow_add-steps
 overflow_add-steps c =
     let a = c.args in
-    let l = method a.code.now a.kinds.now a.words.now a.handlers.now in
+    let l = lent a.method.now in
     let t = c.loop-u in
     let p = c.advance_plain-plain in
     let r = reached p.result p.new.slots in
@@ -126,7 +126,7 @@ overflow_add-steps c =
 pub loop-u-smaller : goal.loop-u-smaller
 loop-u-smaller c =
     let a = c.args in
-    let l = method a.code.now a.kinds.now a.words.now a.handlers.now in
+    let l = lent a.method.now in
     let t = c.loop-u in
     let p = c.advance_plain-plain in
     let r = reached p.result p.new.slots in
@@ -136,7 +136,7 @@ loop-u-smaller c =
 pub loop-u-preserved : goal.loop-u-preserved
 loop-u-preserved c =
     let a = c.args in
-    let l = method a.code.now a.kinds.now a.words.now a.handlers.now in
+    let l = lent a.method.now in
     let t = c.loop-u in
     let p = c.advance_plain-plain in
     let r = reached p.result p.new.slots in

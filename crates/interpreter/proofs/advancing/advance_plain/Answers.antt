@@ -4,9 +4,8 @@ use native.Mathlib.Omega.{arith}
 use Rattle.rules.proofs.Legal.{ordinary_legal}
 use Rattle.return_types.specs.Settled.{settled}
 use Rattle.interpreter.proofs.Steps.{turn, ends_there, all_taken}
-use borrow.Enum.Refused.{opened}
 use Rattle.interpreter.proofs.advancing.advance_plain.Goals as goal
-use Rattle.std.specs.Prelude.{Ok}
+use Rattle.std.specs.Prelude.{Ok, Err}
 
 pub loop-u-init : goal.loop-u-init
 loop-u-init c = let p = c.requires in record { upto = p.taken_le_most; long = refl; framed = p.slots_value; rest = refl }
@@ -14,12 +13,12 @@ loop-u-init c = let p = c.requires in record { upto = p.taken_le_most; long = re
 pub decide_framed-decision-requires : goal.decide_framed-decision-requires
 decide_framed-decision-requires c = c.loop-u.invariant.framed
 
-pub shape_of-slots-in_default : goal.shape_of-slots-in_default
-shape_of-slots-in_default c = c.loop-u.invariant.long
+pub shape_of-slots-in-Err : goal.shape_of-slots-in-Err
+shape_of-slots-in-Err c = c.loop-u.invariant.long
 
-pub returns-in_default : goal.returns-in_default
-returns-in_default c = let t = c.loop-u in
-    ends_there _ _ _ _ _ t.slots t.t t.steps t.invariant c.decide_framed-decision.result c.decide_framed-decision.ensures (opened c.in_default.in_default-own.keys2)
+pub returns-in-Err : goal.returns-in-Err
+returns-in-Err c = let t = c.loop-u in
+    ends_there _ _ _ _ _ t.slots t.t t.steps t.invariant c.decide_framed-decision.result c.decide_framed-decision.ensures (_, c.in-Err.is)
 
 pub shape_of-slots-then-steps-most : goal.shape_of-slots-then-steps-most
 shape_of-slots-then-steps-most c = c.loop-u.invariant.long

@@ -1,13 +1,13 @@
 -- `decide_located` meets its contract. Assumes nothing.
+use Rattle.std.proofs.lemmas.Result.{err_from_is_err_and}
 use Rattle.interpreter.specs.Stages.{located_decision}
 use Rattle.interpreter.proofs.deciding.decide_located.Goals as goal
-use Rattle.std.specs.Prelude.{Err}
-use Rattle.rules.specs.declared.halts.Halt.TheVariants.{Refused}
 
-pub returns-in-Refused : goal.returns-in-Refused
+pub returns-in_err-a : goal.returns-in_err-a
 unfolding located_decision
-returns-in-Err (Refused c) = simp (← c.read_words-read.ensures, c.in-Refused.is)
+returns-in_err-a c = let p = err_from_is_err_and c.from_residual.result c.from_residual.ensures.1 in
+    rw (p.1, p.2) (simp (← c.read_words.ensures, c.in_err-a.was))
 
-pub returns-in-Words : goal.returns-in-Words
+pub returns : goal.returns
 unfolding located_decision
-returns-in-Words c = simp (← c.read_words-read.ensures, c.in-Words.is, ← c.effect-does.ensures, ← c.finish.ensures)
+returns c = simp (← c.read_words.ensures, c.in_ok-a.was, ← c.effect-does.ensures, ← c.finish.ensures)

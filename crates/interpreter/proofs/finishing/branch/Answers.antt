@@ -14,4 +14,4 @@ ordinary_to-requires c = let a = c.args in
 
 pub returns : goal.returns
 unfolding branch_of
-returns c = simp (c.if-taken.false, ← c.inside-to.ensures, ← c.no_words.ensures, ← c.ordinary_to.ensures)
+returns c = simp (c.if-taken.false, ← c.inside-to.ensures, ← c.ordinary_to.ensures)

@@ -3,7 +3,6 @@ use lib.IntN.{pos}
 use Rattle.interpreter.specs.Stages.{finish_of}
 use Rattle.interpreter.proofs.Answers.{target_reach}
 use Rattle.interpreter.proofs.finishing.finish.Goals as goal
-use Rattle.std.specs.Prelude.{Err}
 use Rattle.rules.specs.declared.halts.Halt.TheVariants.{Return, Throw}
 
 pub ordinary_to-requires : goal.ordinary_to-requires
@@ -14,9 +13,9 @@ pub returns-in-Words : goal.returns-in-Words
 unfolding finish_of
 returns-in-Words c = simp (c.in-Words.is, ← c.inside-to.ensures, ← c.ordinary_to.ensures)
 
-pub returns-in-(Err Throw) : goal.returns-in-(Err Throw)
+pub returns-in-Throw : goal.returns-in-Throw
 unfolding finish_of
-returns-in-(Err Throw) c = simp c.in-(Err Throw).is
+returns-in-Throw c = simp c.in-Throw.is
 
 pub returns-in-Branch : goal.returns-in-Branch
 unfolding finish_of
@@ -24,4 +23,4 @@ returns-in-Branch c = simp (c.in-Branch.is, ← c.branch-code.ensures)
 
 pub returns-in-Return : goal.returns-in-Return
 unfolding finish_of
-returns-in-Err (Return c) = simp c.in-Return.is
+returns-in-Return c = simp c.in-Return.is

@@ -12,4 +12,4 @@ ordinary_to-requires c = let a = c.args in
 
 pub returns : goal.returns
 unfolding branch_of
-returns c = rw (← c.branch_offset-offset.ensures, ← c.jump_relative-to.ensures, ← c.no_words.ensures) c.ordinary_to.ensures
+returns c = rw (← c.branch_offset-offset.ensures, ← c.jump_relative-to.ensures) c.ordinary_to.ensures

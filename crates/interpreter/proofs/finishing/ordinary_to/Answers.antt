@@ -1,17 +1,16 @@
 -- `ordinary_to` meets its contract. Assumes nothing.
-use native.Mathlib.Omega.{arith}
+use Rattle.std.proofs.Common.{arith}
+use Rattle.std.proofs.lemmas.Result.{err_from_is_err_and}
 use Rattle.interpreter.specs.Stages.{ordinary_to}
 use Rattle.interpreter.proofs.finishing.ordinary_to.Goals as goal
-use Rattle.std.specs.Prelude.{Err}
-use Rattle.rules.specs.declared.halts.Halt.TheVariants.{Refused}
 
 pub overflow_cast-result : goal.overflow_cast-result
-overflow_cast-result c = record { fits = omega (arith, rw c.in-At.is at c.requires) }
+overflow_cast-result c = record { fits = omega (arith, rw c.in_ok-pc.was at c.requires) }
 
-pub returns-in-Refused : goal.returns-in-Refused
+pub returns-in_err-pc : goal.returns-in_err-pc
 unfolding ordinary_to
-returns-in-Err (Refused c) = rw c.in-Refused.is
+returns-in_err-pc c = let p = err_from_is_err_and c.from_residual.result c.from_residual.ensures.1 in rw (p.1, p.2) (simp c.in_err-pc.was)
 
-pub returns-in-At : goal.returns-in-At
+pub returns : goal.returns
 unfolding ordinary_to
-returns-in-At c = rw (c.in-At.is, c.first_place.ensures)
+returns c = simp (c.in_ok-pc.was, ← c.first_place.ensures)

@@ -1,23 +1,21 @@
 -- `run` meets its contract. Assumes nothing.
 use mathlib.Core.Path.{sym, ◌∙◌}
-use Rattle.rules.specs.Questions.{method}
-use Rattle.rules.proofs.Answers.{row_passed, row_refused}
+use Rattle.rules.specs.Lent.{lent, plain}
 use Rattle.interpreter.proofs.Taken.{accounted, refused_run, passed_run}
 use Rattle.interpreter.proofs.running.run.Goals as goal
-use Rattle.std.specs.Prelude.{Err}
-use Rattle.rules.specs.declared.halts.Halt.TheVariants.{Refused}
+use Rattle.std.specs.Prelude.{Err, Ok}
 
 pub run_framed-requires : goal.run_framed-requires
-run_framed-requires c = row_passed _ (sym c.in-Passed.is ∙ c.check_frame-asked.ensures _)
+run_framed-requires c = (sym c.check_frame-asked.ensures ∙ c.in-Ok.is)
 
-pub returns-in-Refused : goal.returns-in-Refused
-returns-in-Err (Refused c) = let a = c.args in
-    let l = method a.code.now a.kinds.now a.words.now a.handlers.now in
-    let k = accounted l a.budget a.s a.slots.now _ (refused_run l a.budget a.s a.slots.now _ (row_refused _ _ (sym c.in-Refused.is ∙ c.check_frame-asked.ensures _))) in
+pub returns-in-Err : goal.returns-in-Err
+returns-in-Err c = let a = c.args in
+    let l = lent a.method.now in
+    let k = accounted l a.budget a.s a.slots.now _ (refused_run l a.budget a.s a.slots.now _ (sym c.check_frame-asked.ensures ∙ c.in-Err.is)) in
     record { slots_after = k.0; account = k.1 }
 
-pub returns-in-Passed : goal.returns-in-Passed
-returns-in-Passed c = let a = c.args in
-    let l = method a.code.now a.kinds.now a.words.now a.handlers.now in
-    let k = accounted l a.budget a.s a.slots.now _ (c.run_framed.ensures ∙ passed_run l a.budget a.s a.slots.now (row_passed _ (sym c.in-Passed.is ∙ c.check_frame-asked.ensures _))) in
+pub returns-in-Ok : goal.returns-in-Ok
+returns-in-Ok c = let a = c.args in
+    let l = lent a.method.now in
+    let k = accounted l a.budget a.s a.slots.now _ (c.run_framed.ensures ∙ passed_run l a.budget a.s a.slots.now ((sym c.check_frame-asked.ensures ∙ c.in-Ok.is))) in
     record { slots_after = k.0; account = k.1 }

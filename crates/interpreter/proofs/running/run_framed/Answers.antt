@@ -1,29 +1,28 @@
 -- `run_framed` meets its contract. Assumes nothing.
 use mathlib.Core.Path.{ap}
 use native.Mathlib.Omega.{arith}
-use Rattle.rules.specs.Questions.{method}
+use Rattle.rules.specs.Lent.{lent, plain}
 use Rattle.return_types.specs.Settled.{settled}
 use Rattle.interpreter.proofs.Steps.{settled_other}
 use Rattle.interpreter.proofs.Taken.{no_budget, legal_last, ends_stopped, ends_other}
-use borrow.Enum.Refused.{opened}
 use Rattle.interpreter.proofs.running.run_framed.Goals as goal
-use Rattle.std.specs.Prelude.{Ok}
+use Rattle.std.specs.Prelude.{Ok, Err}
 
 pub returns-then-budget-eq0 : goal.returns-then-budget-eq0
 returns-then-budget-eq0 c = let a = c.args in
-    let l = method a.code.now a.kinds.now a.words.now a.handlers.now in
+    let l = lent a.method.now in
     rw c.ended.ensures (no_budget l a.budget a.s a.slots.now c.if-budget-eq0.true)
 
-pub returns-in_default : goal.returns-in_default
-returns-in_default c = let a = c.args in
+pub returns-in-Err : goal.returns-in-Err
+returns-in-Err c = let a = c.args in
     let r = c.advance_framed-reached.result in
-    let l = method a.code.now a.kinds.now a.words.now a.handlers.now in
-    rw (c.ended-in_default.ensures, c.end_of-end.ensures, c.settle.ensures)
-    (ends_other l a.budget a.s a.slots.now c.if-budget-eq0.false _ c.advance_framed-reached.ensures.slots_after (settled_other r.state.return_type r.decision (opened c.in_default.in_default-own.keys2)))
+    let l = lent a.method.now in
+    rw (c.ended-in-Err.ensures, c.end_of-end.ensures, c.settle.ensures)
+    (ends_other l a.budget a.s a.slots.now c.if-budget-eq0.false _ c.advance_framed-reached.ensures.slots_after (settled_other r.state.return_type r.decision (_, c.in-Err.is)))
 
 pub commit-requires : goal.commit-requires
 commit-requires c = let a = c.args in
-    let l = method a.code.now a.kinds.now a.words.now a.handlers.now in
+    let l = lent a.method.now in
     let k = legal_last l a.budget a.s a.slots.now c.if-budget-eq0.false _ c.advance_framed-reached.ensures.slots_after _ (ap (settled _) c.in-Ok.is) in
     (k.few, k.within, k.frame_there.room)
 
@@ -32,5 +31,5 @@ overflow_add-steps c = omega (arith, c.advance_framed-reached.ensures.steps_le_m
 
 pub returns : goal.returns
 returns c = let a = c.args in
-    let l = method a.code.now a.kinds.now a.words.now a.handlers.now in
+    let l = lent a.method.now in
     rw (c.moved-state.ensures, c.commit.ensures) (ends_stopped l a.budget a.s a.slots.now c.if-budget-eq0.false _ c.advance_framed-reached.ensures.slots_after _ (ap (settled _) c.in-Ok.is))
