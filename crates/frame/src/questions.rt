@@ -1,6 +1,6 @@
 // Questions 1 to 3: whether a frame stands in what is lent.
-ghost use Rattle.std.specs.Prelude.{◌≡◌, length};
-ghost use Rattle.rules.specs.Lent.{lent};
+ghost use Rattle.std.specs.Prelude.{ℕ, ◌≡◌, List, length};
+ghost use Rattle.rules.specs.Lent.{lent, with_handlers};
 ghost use Rattle.rules.specs.Questions.{frame_check};
 
 use rules::{Method, Refusal, State};
@@ -10,9 +10,9 @@ const MAX_POOL: usize = 65536;
 
 const MAX_CODE: usize = 65535;
 
-// Questions 1 to 3.
+// Questions 1 to 3, whatever the handlers are.
 pub fn check_frame(method: &Method, slots: &[u32], s: State) -> Result<(), Refusal>
-    ensures { result ≡ frame_check (lent method.now) s (length slots.now) }
+    ensures { (handlers : List ℕ) → result ≡ frame_check (with_handlers handlers (lent method.now)) s (length slots.now) }
 {
     let code = method.code;
     let kinds = method.kinds;

@@ -103,7 +103,7 @@ module _ (log : List ℕ) (k : ℕ) (e : Entry) (is : e ≡ entry_of log k) wher
 
         pub some_places : e.many ≤ 6 → (e.many ≡ 0 → ⊥) → leb (e.first + e.many) (s.max_locals + s.max_stack) ≡ is_passed (entry_check code s log k)
         unfolding entry_check ◌else◌ ◌>>◌
-        some_places few h = simp (← pc_read, ← depth_read, ← first_read, ← many_read, lt-ltb _ _ offset, le-leb _ _ depth, le-leb _ _ few, ne_eqb _ _ h) (last_asked _ 14)
+        some_places few h = simp (← pc_read, ← depth_read, ← first_read, ← many_read, lt-ltb _ _ offset, le-leb _ _ depth, le-leb _ _ few, ne_eqb _ _ h) (last_asked _ _)
 
   -- ---- what it gives back
 

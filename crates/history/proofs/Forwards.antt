@@ -10,7 +10,6 @@ use Rattle.rules.proofs.History.{forward_by_lem}
 use Rattle.interpreter.specs.Advance.{Reached, advance_from}
 use Rattle.interpreter.proofs.Steps.{Other, not_other, decided_there, slots_there}
 use Rattle.std.specs.Prelude.{Ok, Err}
-use Rattle.rules.specs.declared.halts.Halt.TheVariants.{Return, Throw, Refused}
 use Rattle.rules.specs.Decisions.{Decision}
 
 pub forward_there : (l : Method) (s : State) (slots log : List ℕ) (r : Reached) → r ≡ advance_from l 0 0 s slots
@@ -27,6 +26,4 @@ forward_other l s slots log r e o = go r.decision o ∙ forward_there l s slots 
   where
     go : (d : Decision) → Other d → kept s r.slots log 0 (pressed_by d) ≡ forward_by s r.slots log 0 d
     go (Ok u) h = absurd (not_other u h)
-    go (Err (Return v)) h = refl
-    go (Err Throw) h = refl
-    go (Err (Refused n)) h = refl
+    go (Err h) o = refl

@@ -1,11 +1,12 @@
 -- What a press and a list of presses give, with the words that they leave, as the rules have it. Assumes nothing.
-use Rattle.std.specs.Prelude.{ℕ, ◌+◌, List, get_or, Ok}
+use Rattle.std.specs.Prelude.{ℕ, ◌+◌, List, get_or, Ok, Err}
 use Rattle.rules.specs.declared.states.State.{State}
 use Rattle.rules.specs.History.{AfterPress}
 use Rattle.rules.specs.Presses.{Replayed}
 use Rattle.history.specs.declared.undo_log.Entry.{Entry}
 use Rattle.history.specs.declared.forward_press.PressResult.{PressResult}
-use Rattle.history.specs.declared.press_list.Replay.{Replay}
+use Rattle.rules.specs.Check.{Check}
+use Rattle.rules.specs.Refusals.{number_of}
 
 abbrev pub pressed : PressResult → List ℕ → List ℕ → AfterPress
 pressed r slots log = record { state = r.state; answer = r.answer; slots = slots; log = log }
@@ -15,7 +16,9 @@ abbrev pub entry_of : List ℕ → ℕ → Entry
 entry_of log k = record { pc = get_or log k 0; depth = get_or log (k + 1) 0; first = get_or log (k + 2) 0; many = get_or log (k + 3) 0 }
 
 abbrev pub taken_back : State → List ℕ → List ℕ → AfterPress
-taken_back s slots log = record { state = s; answer = (Ok tt); slots = slots; log = log }
+taken_back s slots log = record { state = s; answer = Ok tt; slots = slots; log = log }
 
-abbrev pub left : Replay → List ℕ → List ℕ → List ℕ → Replayed
-left r slots log answers = record { number = r.number; state = r.state; slots = slots; log = log; answers = answers }
+-- a list of presses that began at s: the state after it, or its refusal
+abbrev pub left : Check State → State → List ℕ → List ℕ → List ℕ → Replayed
+left (Ok t) s slots log answers = record { number = 0; state = t; slots = slots; log = log; answers = answers }
+left (Err r) s slots log answers = record { number = number_of r; state = s; slots = slots; log = log; answers = answers }

@@ -1,9 +1,9 @@
 // Answers as numbers and words.
 ghost use Rattle.std.specs.Prelude.{◌≡◌};
-ghost use Rattle.rules.specs.Answers.{answer, value_answer, pressed_answer};
+ghost use Rattle.rules.specs.Answers.{answer, value_answer, halt_answer, pressed_answer};
 
 use integers::{high_word, low_word};
-use rules::{Answer, Pressed};
+use rules::{Answer, Halt, Pressed};
 use values::Value;
 
 // A number alone.
@@ -53,14 +53,23 @@ pub fn value_answer(v: Value) -> Answer
     }
 }
 
+// What halts a step, a press or a run.
+pub fn halt_answer(halt: Halt) -> Answer
+    ensures { result ≡ halt_answer halt }
+{
+    match halt {
+        Halt::Return(v) => value_answer(v),
+        Halt::Throw => number_answer(110),
+        Halt::Refused(refusal) => number_answer(refusal.number()),
+    }
+}
+
 // What a press comes to.
 pub fn pressed_answer(a: Pressed) -> Answer
     ensures { result ≡ pressed_answer a }
 {
     match a {
-        Pressed::Granted => number_answer(0),
-        Pressed::Return(v) => value_answer(v),
-        Pressed::Throw => number_answer(110),
-        Pressed::Refused(n) => number_answer(n),
+        Ok(()) => number_answer(0),
+        Err(halt) => halt_answer(halt),
     }
 }

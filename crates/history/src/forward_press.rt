@@ -1,6 +1,7 @@
 // Forward: a step with history.
 ghost use Rattle.std.specs.Prelude.{◌≡◌, ◌+◌, ◌≤◌, length};
-ghost use Rattle.rules.specs.Step.{machine};
+ghost use Rattle.rules.specs.Lent.{lent};
+ghost use Rattle.rules.specs.Step.{core_machine};
 ghost use Rattle.rules.specs.Questions.{frame_size};
 ghost use Rattle.rules.specs.History.{log_check, granted_by, pressed_by, forward_of};
 ghost use Rattle.history.specs.Left.{pressed};
@@ -9,7 +10,7 @@ use crate::undo_log::{entries, write_entry};
 use frame::commit;
 use interpreter::{advance, moved};
 use return_types::settle;
-use rules::{Decision, Pressed, State, Update};
+use rules::{Decision, Halt, Method, Pressed, Refusal, State, Update};
 
 // The state after a press, and its answer.
 #[derive(Clone, Copy)]
@@ -26,7 +27,7 @@ fn grant(slots: &mut [u32], log: &mut [u32], s: State, u: Update) -> PressResult
     if entries(log) <= s.count {
         return PressResult {
             state: s,
-            answer: Pressed::Refused(12),
+            answer: Err(Halt::Refused(Refusal::LogFull)),
         };
     }
     write_entry(slots, log, s, u);
@@ -34,7 +35,7 @@ fn grant(slots: &mut [u32], log: &mut [u32], s: State, u: Update) -> PressResult
     let state = moved(s, u.pc, u.depth, s.count + 1);
     PressResult {
         state,
-        answer: Pressed::Granted,
+        answer: Ok(()),
     }
 }
 
@@ -43,32 +44,22 @@ pub fn pressed_by(decision: Decision) -> Pressed
     ensures { result ≡ pressed_by decision }
 {
     match decision {
-        Decision::Ordinary(_) => Pressed::Granted,
-        Decision::Return(v) => Pressed::Return(v),
-        Decision::Throw => Pressed::Throw,
-        Decision::Refused(n) => Pressed::Refused(n),
+        Ok(_) => Ok(()),
+        Err(halt) => Err(halt),
     }
 }
 
-// A press of forward on any code, pool, handlers, slots, log and state. One that is not granted writes nothing.
-pub fn forward(
-    code: &[u8],
-    kinds: &[u8],
-    words: &[u32],
-    handlers: &[u8],
-    slots: &mut [u32],
-    log: &mut [u32],
-    s: State,
-) -> PressResult
-    ensures { pressed result slots.new log.new ≡ forward_of (machine code.now kinds.now words.now handlers.now) s slots.old log.old }
+// A press of forward on any method, slots, log and state. One that is not granted writes nothing.
+pub fn forward(method: &Method, slots: &mut [u32], log: &mut [u32], s: State) -> PressResult
+    ensures { pressed result slots.new log.new ≡ forward_of (core_machine (lent method.now)) s slots.old log.old }
 {
-    let reached = advance(code, kinds, words, handlers, slots, s, 0);
+    let reached = advance(method, slots, s, 0);
     let decision = reached.decision;
-    let Decision::Ordinary(u) = decision else {
-        return PressResult {
+    match decision {
+        Ok(u) => grant(slots, log, s, u),
+        Err(_) => PressResult {
             state: s,
             answer: pressed_by(settle(s.return_type, decision)),
-        };
-    };
-    grant(slots, log, s, u)
+        },
+    }
 }

@@ -8,6 +8,7 @@ use Rattle.rules.specs.Check.{Check}
 use Rattle.rules.specs.declared.halts.Halt.TheVariants.{Return, Throw, Refused}
 use Rattle.rules.specs.Decisions.{Decision, End, Pressed}
 use Rattle.rules.specs.Refusals.{number_of}
+use Rattle.rules.specs.declared.halts.Halt.{Halt}
 
 -- a number and the bits of a value
 abbrev pub answer : ℕ → ℕ → Answer
@@ -22,26 +23,26 @@ value_answer (Long v) = answer 104 v
 value_answer (Double v) = answer 105 v
 value_answer Void = answer 106 0
 
--- a step: ordinary, a return, an ArithmeticException, a refusal
+-- what halts: a return, an ArithmeticException, a refusal
+abbrev pub halt_answer : Halt → Answer
+halt_answer (Return v) = value_answer v
+halt_answer Throw = answer 110 0
+halt_answer (Refused r) = answer (number_of r) 0
+
+-- a step: ordinary, or what halts there
 abbrev pub decision_answer : Decision → Answer
 decision_answer (Ok u) = answer 0 0
-decision_answer (Err (Return v)) = value_answer v
-decision_answer (Err Throw) = answer 110 0
-decision_answer (Err (Refused r)) = answer (number_of r) 0
+decision_answer (Err h) = halt_answer h
 
 -- a run: stopped, or as the step at which it ended
 abbrev pub end_answer : End → Answer
 end_answer None = answer 120 0
-end_answer (Some (Return v)) = value_answer v
-end_answer (Some Throw) = answer 110 0
-end_answer (Some (Refused r)) = answer (number_of r) 0
+end_answer (Some h) = halt_answer h
 
 -- a press: granted, or as the step at which it ended
 abbrev pub pressed_answer : Pressed → Answer
 pressed_answer (Ok t) = answer 0 0
-pressed_answer (Err (Return v)) = value_answer v
-pressed_answer (Err Throw) = answer 110 0
-pressed_answer (Err (Refused r)) = answer (number_of r) 0
+pressed_answer (Err h) = halt_answer h
 
 -- a load: accepted, or its refusal
 abbrev pub load_answer : Check (Unit {0}) → Answer

@@ -1,6 +1,7 @@
--- `make_presses` meets its contract. The loop's invariant is `Replaying`; the measure is what is left of the list. Assumes nothing.
+-- `make_presses` meets its contract. The loop's invariant is `Replaying`. Assumes nothing.
 use native.Mathlib.Omega.{arith}
-use Rattle.rules.specs.Step.{machine}
+use Rattle.rules.specs.Lent.{lent}
+use Rattle.rules.specs.Step.{core_machine}
 use Prim.Native.Nat.{◌+◌, ◌*◌, ◌≤◌}
 use lib.ListN.{length}
 use Rattle.rules.proofs.Replay.{begins, one_more, all_made}
@@ -8,13 +9,7 @@ use Rattle.history.proofs.press_list.make_presses.Goals as goal
 
 pub loop-i-init : goal.loop-i-init
 loop-i-init c = let a = c.args in
-    begins (machine a.code.now a.kinds.now a.words.now a.handlers.now) a.bytes.now a.s a.slots.now a.log.now a.answers.now
-
-pub bounds-bytes-i : goal.bounds-bytes-i
-bounds-bytes-i c = omega arith
-
-pub overflow_mul-i : goal.overflow_mul-i
-overflow_mul-i c = omega (arith, c.loop-i-test.true, c.requires, c.well_formed.1.1.1.1.1.1.1.1.0)
+    begins (core_machine (lent a.method.now)) a.bytes.now a.s a.slots.now a.log.now a.answers.now
 
 pub write_answer-requires : goal.write_answer-requires
 write_answer-requires c = let a = c.args in
@@ -22,15 +17,9 @@ write_answer-requires c = let a = c.args in
     let room : 3 * t.i + 3 ≤ length t.answers = omega (arith, c.loop-i-test.true, c.requires, t.invariant.long_answers) in
     room
 
-pub overflow_add-i : goal.overflow_add-i
-overflow_add-i c = omega (arith, c.loop-i-test.true, c.well_formed.1.1.1.1.1.1.1.0)
-
-pub loop-i-smaller : goal.loop-i-smaller
-loop-i-smaller c = omega (arith, c.loop-i-test.true)
-
 pub loop-i-preserved : goal.loop-i-preserved
 loop-i-preserved c = let a = c.args in
-    let l = machine a.code.now a.kinds.now a.words.now a.handlers.now in
+    let l = core_machine (lent a.method.now) in
     let t = c.loop-i in
     let p = c.press-p in
     let room : 3 * t.i + 3 ≤ length t.answers = omega (arith, c.loop-i-test.true, c.requires, t.invariant.long_answers) in
@@ -48,6 +37,6 @@ shape_of-answers c = c.loop-i.invariant.long_answers
 
 pub returns : goal.returns
 returns c = let a = c.args in
-    let l = machine a.code.now a.kinds.now a.words.now a.handlers.now in
+    let l = core_machine (lent a.method.now) in
     let t = c.loop-i in
     all_made l a.bytes.now a.s a.slots.now a.log.now a.answers.now t.i t.t t.slots t.log t.answers t.invariant c.loop-i-test.false c.requires

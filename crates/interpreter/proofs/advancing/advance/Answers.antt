@@ -12,7 +12,7 @@ use Rattle.std.specs.Prelude.{Ok, Err}
 
 pub advance_plain-requires : goal.advance_plain-requires
 advance_plain-requires c = let a = c.args in
-    record { slots_value = plain_framed (lent a.method.now) _ _ ((sym c.check_frame-asked.ensures ∙ c.in-Ok.is)); taken_le_most = omega arith }
+    record { slots_value = plain_framed (lent a.method.now) _ _ ((sym (c.check_frame-asked.ensures _) ∙ c.in-Ok.is)); taken_le_most = omega arith }
 
 pub returns-then-method-eq0 : goal.returns-then-method-eq0
 returns-then-method-eq0 c = let a = c.args in
@@ -20,9 +20,9 @@ returns-then-method-eq0 c = let a = c.args in
     c.advance_plain.ensures ∙ without_handlers l c.if-method-eq0.true a.most 0 a.s a.slots.now ∙ rw (sub-zero a.most)
 
 pub advance_framed-requires : goal.advance_framed-requires
-advance_framed-requires c = (sym c.check_frame-asked.ensures ∙ c.in-Ok.is)
+advance_framed-requires c = (sym (c.check_frame-asked.ensures _) ∙ c.in-Ok.is)
 
 pub returns-in-Err : goal.returns-in-Err
 returns-in-Err c = let a = c.args in
     let l = lent a.method.now in
-    sym (advance_other l 0 a.s a.slots.now a.most _ (by_frame l a.s a.slots.now _ (sym c.check_frame-asked.ensures ∙ c.in-Err.is)) (_, refl))
+    sym (advance_other l 0 a.s a.slots.now a.most _ (by_frame l a.s a.slots.now _ (sym (c.check_frame-asked.ensures _) ∙ c.in-Err.is)) (_, refl))

@@ -7,9 +7,9 @@ use Rattle.interpreter.proofs.stepping.step.Goals as goal
 use Rattle.std.specs.Prelude.{Ok, Err}
 
 pub step_framed-requires : goal.step_framed-requires
-step_framed-requires c = (sym c.check_frame-asked.ensures ∙ c.in-Ok.is)
+step_framed-requires c = (sym (c.check_frame-asked.ensures _) ∙ c.in-Ok.is)
 
 pub returns-in-Err : goal.returns-in-Err
 returns-in-Err c = let a = c.args in
     let l = lent a.method.now in
-    step_refused l a.s a.slots.now _ (by_frame l a.s a.slots.now _ (sym c.check_frame-asked.ensures ∙ c.in-Err.is))
+    step_refused l a.s a.slots.now _ (by_frame l a.s a.slots.now _ (sym (c.check_frame-asked.ensures _) ∙ c.in-Err.is))
