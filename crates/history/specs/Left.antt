@@ -19,6 +19,13 @@ abbrev pub taken_back : State → List ℕ → List ℕ → AfterPress
 taken_back s slots log = record { state = s; answer = Ok tt; slots = slots; log = log }
 
 -- a list of presses that began at s: the state after it, or its refusal
+abbrev pub number_left : Check State → ℕ
+number_left (Ok t) = 0
+number_left (Err r) = number_of r
+
+abbrev pub state_left : State → Check State → State
+state_left s (Ok t) = t
+state_left s (Err r) = s
+
 abbrev pub left : Check State → State → List ℕ → List ℕ → List ℕ → Replayed
-left (Ok t) s slots log answers = record { number = 0; state = t; slots = slots; log = log; answers = answers }
-left (Err r) s slots log answers = record { number = number_of r; state = s; slots = slots; log = log; answers = answers }
+left r s slots log answers = record { number = number_left r; state = state_left s r; slots = slots; log = log; answers = answers }

@@ -34,7 +34,7 @@ module _ (state answer : List ℕ) (n : ℕ) where
 
   pub long_state : state_size ≤ length state → leb n (length answer) ≡ is_passed (lengths_check state answer n)
   unfolding lengths_check ◌else◌ ◌>>◌
-  long_state h = simp (le-leb _ _ h) (last_asked _ 1)
+  long_state h = simp (le-leb _ _ h) (last_asked _ _)
 
   pub lengths_no : is_passed (lengths_check state answer n) ≡ false → lengths_check state answer n ≡ Err Refusal.Lengths
   unfolding lengths_check
@@ -43,8 +43,8 @@ module _ (state answer : List ℕ) (n : ℕ) where
   pub lengths_yes : is_passed (lengths_check state answer n) ≡ true → (state_size ≤ length state) × (n ≤ length answer)
   unfolding lengths_check
   lengths_yes e =
-      let a = first_passed _ Refusal.Lengths _ (is_passed_lem (lengths_check state answer n) e) in
-      (leb-true _ _ a.0, leb-true _ _ (last_passed _ Refusal.Lengths a.1))
+      let a = first_passed _ _ _ (is_passed_lem (lengths_check state answer n) e) in
+      (leb-true _ _ a.0, leb-true _ _ (last_passed _ _ a.1))
 
 -- ---- question 26 of the words of a load
 
@@ -80,16 +80,12 @@ module _ (state answer : List ℕ) (p : Reading) where
       go true true false h = refl
       go true true true h = let z : ◌≡◌ {A = ℕ} 0 1 = cc in absurd (omega arith)
 
-  -- so that a load which is refused here has a number above 0
-  pub words_above : (n : ℕ) → words_check state answer p ≡ Err n → 0 < n
-  words_above n e = let same = words_no (ap is_passed e) in let k : n ≡ 26 = cc in omega arith
-
   pub words_yes : words_check state answer p ≡ Ok tt → (state_size ≤ length state) × (4 ≤ length answer) × (handlers_length p < 2 ^ 32)
   unfolding words_check
   words_yes e =
-      let a = first_passed _ Refusal.LentMemory _ e in
-      let b = first_passed _ Refusal.LentMemory _ a.1 in
-      (leb-true _ _ a.0, leb-true _ _ b.0, ltb-true _ _ (last_passed _ Refusal.LentMemory b.1))
+      let a = first_passed _ _ _ e in
+      let b = first_passed _ _ _ a.1 in
+      (leb-true _ _ a.0, leb-true _ _ b.0, ltb-true _ _ (last_passed _ _ b.1))
 
 -- ---- the sizes
 
@@ -100,7 +96,7 @@ module _ (ws : List ℕ) where
 
   pub stack_fits : get_or ws 0 0 ≤ 65535 → leb (get_or ws 1 0) 65535 ≡ is_passed (sizes_check ws)
   unfolding sizes_check ◌else◌ ◌>>◌
-  stack_fits h = simp (le-leb _ _ h) (last_asked _ 1)
+  stack_fits h = simp (le-leb _ _ h) (last_asked _ _)
 
   pub sizes_no : is_passed (sizes_check ws) ≡ false → sizes_check ws ≡ Err Refusal.Lengths
   unfolding sizes_check
@@ -109,8 +105,8 @@ module _ (ws : List ℕ) where
   pub sizes_yes : is_passed (sizes_check ws) ≡ true → (get_or ws 0 0 ≤ 65535) × (get_or ws 1 0 ≤ 65535)
   unfolding sizes_check
   sizes_yes e =
-      let a = first_passed _ Refusal.Lengths _ (is_passed_lem (sizes_check ws) e) in
-      (leb-true _ _ a.0, leb-true _ _ (last_passed _ Refusal.Lengths a.1))
+      let a = first_passed _ _ _ (is_passed_lem (sizes_check ws) e) in
+      (leb-true _ _ a.0, leb-true _ _ (last_passed _ _ a.1))
 
 -- what passes them
 pub lengths_pass : (state answer : List ℕ) (n : ℕ) → state_size ≤ length state → n ≤ length answer → lengths_check state answer n ≡ Ok tt

@@ -22,14 +22,15 @@ use Rattle.rules.specs.Walk.{press_of, Walked, walk_of, Demand3}
 use Rattle.rules.specs.Answers.{value_answer, end_answer, pressed_answer, load_answer}
 use Rattle.rules.specs.Presses.{replay_of, loaded_method, LeftBy, plain_walk_in}
 use Rattle.rules.proofs.Lawful.{core_lawful}
-use Rattle.rules.proofs.Sheet.{sheet_numbered, load_accepted}
+use Rattle.rules.proofs.RefusalNumbers.{number_above}
+use Rattle.rules.proofs.Sheet.{load_accepted}
 use Rattle.rules.proofs.AcceptedLoad.{was_read, Said, accepted_said, refused_above}
 use Rattle.rules.proofs.FromSheet.{demand3}
 use Rattle.rules.proofs.Replay.{from_any_load}
 use Rattle.workbook.specs.StateWords.{state_words, state_in, state_size, with_state, sizes_check}
 use Rattle.workbook.specs.Calls.{Called, state_after, answer_after, forward_call, back_call, with_steps, run_call, presses_made, presses_call, LoadCalled, parts_of, words_check, load_by, load_for, load_call}
 use Rattle.workbook.specs.Demand3.{method_left, Calls, press_call, calls_of, answers_left, Demand3OfCalls, FromThisLoad, LeftByLoad, FromAnyLoadCall}
-use Rattle.workbook.proofs.Checks.{lengths_pass, words_yes, words_above, sizes_pass}
+use Rattle.workbook.proofs.Checks.{lengths_pass, words_yes, sizes_pass}
 use Rattle.std.specs.Prelude.{Ok, Err, None}
 use Rattle.rules.specs.declared.refusals.Refusal.{Refusal}
 use Rattle.rules.specs.declared.halts.Halt.TheVariants.{Return, Throw, Refused}
@@ -46,10 +47,8 @@ long_again ws s h = length-paste ws 0 (state_words s) state_size h (omega arith)
 -- ---- a press keeps the sizes, and one that is not granted keeps the state
 
 abbrev IfNotGranted : Pressed → Type 0 → Type 0
-IfNotGranted (Ok tt) P = Unit {0}
-IfNotGranted (Err (Return v)) P = P
-IfNotGranted (Err Throw) P = P
-IfNotGranted (Err (Refused n)) P = P
+IfNotGranted (Ok t) P = Unit {0}
+IfNotGranted (Err h) P = P
 
 record Keeps (s : State) (o : AfterPress) : Type 0 where
   stack : o.state.max_stack ≡ s.max_stack
@@ -64,9 +63,7 @@ module _ (s : State) (slots log : List ℕ) where
 
   forward_keeps : (n : ℕ) (d : Decision) → Keeps s (forward_by s slots log n d)
   forward_keeps n (Ok u) = granted_keeps n u (leb (10 * s.count + 10) (length log))
-  forward_keeps n (Err (Return v)) = record { stack = refl; locals = refl; state = refl }
-  forward_keeps n (Err Throw) = record { stack = refl; locals = refl; state = refl }
-  forward_keeps n (Err (Refused k)) = record { stack = refl; locals = refl; state = refl }
+  forward_keeps n (Err h) = record { stack = refl; locals = refl; state = refl }
 
   back_keeps : (x : Check (Unit {0})) → Keeps s (back_by s slots log x)
   back_keeps (Ok t) = record { stack = refl; locals = refl; state = tt }
@@ -111,10 +108,8 @@ state_after_lem : (state : List ℕ) (o : AfterPress) → Keeps (state_in state)
 state_after_lem state o k = go o.answer k.state
   where
     go : (a : Pressed) → IfNotGranted a (o.state ≡ state_in state) → state_in (state_after state o.state a) ≡ o.state
-    go (Ok tt) h = state_again state o.state
-    go (Err (Return v)) h = sym h
-    go (Err Throw) h = sym h
-    go (Err (Refused n)) h = sym h
+    go (Ok t) h = state_again state o.state
+    go (Err k) h = sym h
 
 held_after : (state : List ℕ) (o : AfterPress) → Held state → Keeps (state_in state) o → Held (state_after state o.state o.answer)
 held_after state o h k = go o.answer
@@ -123,13 +118,13 @@ held_after state o h k = go o.answer
     written = record { enough = omega (arith, long_again state o.state h.enough, h.enough); stack = omega (arith, k.stack, h.stack); locals = omega (arith, k.locals, h.locals) }
 
     go : (a : Pressed) → Held (state_after state o.state a)
-    go (Ok tt) = written
+    go (Ok t) = written
     go (Err (Return v)) = h
     go (Err Throw) = h
     go (Err (Refused n)) = h
 
 long_answer : (answer : List ℕ) (a : Pressed) → 4 ≤ length answer → 4 ≤ length (answer_after answer a)
-long_answer answer (Ok tt) h = h
+long_answer answer (Ok t) h = h
 long_answer answer (Err (Return v)) h = omega (arith, length-paste answer 0 ((value_answer v).low ∷ (value_answer v).high ∷ []) 2 (omega arith) (omega arith))
 long_answer answer (Err Throw) h = h
 long_answer answer (Err (Refused n)) h = h
@@ -166,20 +161,20 @@ record LoadLeft (sheet slots kinds words state answer : List ℕ) : Type 0 where
       ≡ record { number = 0; slots = m.slots; kinds = m.kinds; words = m.words; state = with_state state m.loaded.state; answer = paste answer 0 (parts_of m.loaded) 4 }
 
 module _ (sheet slots kinds words state answer : List ℕ) where
-  load_numbered : (a : Load) → (load_by state answer (load_of sheet slots kinds words) a).number ≡ (load_answer a).number
-  load_numbered Ok tt = refl
+  load_numbered : (a : Check (Unit {0})) → (load_by state answer (load_of sheet slots kinds words) a).number ≡ (load_answer a).number
+  load_numbered (Ok t) = refl
   load_numbered (Err k) = refl
 
-  left_by_answer : (p : Reading) → sheet_check sheet ≡ Ok p → words_check state answer p ≡ Ok tt → (a : Load) → (load_of sheet slots kinds words).loaded.answer ≡ a → (load_answer a).number ≡ 0
+  left_by_answer : (p : Reading) → sheet_check sheet ≡ Ok p → words_check state answer p ≡ Ok tt → (a : Check (Unit {0})) → (load_of sheet slots kinds words).loaded.answer ≡ a → (load_answer a).number ≡ 0
       → LoadLeft sheet slots kinds words state answer
   unfolding load_call ◌>>=◌
-  left_by_answer p r w Ok tt e z = record { enough = (words_yes state answer p w).0; accepted = e; is = rw (r, w, e) }
+  left_by_answer p r w (Ok t) e z = record { enough = (words_yes state answer p w).0; accepted = e; is = rw (r, w, e) }
   left_by_answer p r w (Err k) e z = absurd (omega (arith, refused_above sheet slots kinds words k e))
 
   left_by_words : (p : Reading) → sheet_check sheet ≡ Ok p → (x : Check (Unit {0})) → words_check state answer p ≡ x → (load_for sheet slots kinds words state answer x).number ≡ 0
       → LoadLeft sheet slots kinds words state answer
   left_by_words p r (Ok t) w z = left_by_answer p r w (load_of sheet slots kinds words).loaded.answer refl (sym (load_numbered (load_of sheet slots kinds words).loaded.answer) ∙ z)
-  left_by_words p r (Err n) w z = absurd (omega (arith, words_above state answer p n w))
+  left_by_words p r (Err n) w z = absurd (omega (arith, number_above n))
 
   load_left : (load_call sheet slots kinds words state answer).number ≡ 0 → LoadLeft sheet slots kinds words state answer
   unfolding load_call ◌>>=◌
@@ -187,7 +182,7 @@ module _ (sheet slots kinds words state answer : List ℕ) where
     where
       go : (x : Check Reading) → sheet_check sheet ≡ x → (load_for sheet slots kinds words state answer (x >>= λ p. words_check state answer p)).number ≡ 0 → LoadLeft sheet slots kinds words state answer
       go (Ok p) r z = left_by_words p r (words_check state answer p) refl z
-      go (Err n) r z = absurd (omega (arith, sheet_numbered sheet n r))
+      go (Err n) r z = absurd (omega (arith, number_above n))
 
 module _ (sheet slots kinds words state answer : List ℕ) (bytes : (i : ℕ) → u8 sheet i < 256) (left : LoadLeft sheet slots kinds words state answer) where
   said : Said sheet (load_of sheet slots kinds words).loaded

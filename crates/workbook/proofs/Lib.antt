@@ -4,4 +4,3 @@ mod LoadedWords
 mod Made
 mod Demand3
 mod ManyPresses
-mod Others

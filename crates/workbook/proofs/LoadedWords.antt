@@ -14,6 +14,7 @@ use Rattle.workbook.specs.StateWords.{with_state}
 use Rattle.workbook.specs.Calls.{parts_of, words_check, load_call}
 use Rattle.std.specs.Prelude.{Ok, Err}
 use Rattle.rules.specs.declared.refusals.Refusal.{Refusal}
+use Rattle.rules.specs.Refusals.{number_of}
 
 -- the four numbers are words
 pub record Lies (x : Loaded) : Type 0 where
@@ -23,7 +24,7 @@ pub record Lies (x : Loaded) : Type 0 where
   pub handlers_length_lem : x.handlers_length < 2 ^ 32
 
 module _ (sheet slots kinds words state answer : List ℕ) where
-  pub load_unread : (n : ℕ) → sheet_check sheet ≡ Err n → record { number = n; slots = slots; kinds = kinds; words = words; state = state; answer = answer } ≡ load_call sheet slots kinds words state answer
+  pub load_unread : (n : Refusal) → sheet_check sheet ≡ Err n → record { number = number_of n; slots = slots; kinds = kinds; words = words; state = state; answer = answer } ≡ load_call sheet slots kinds words state answer
   unfolding load_call ◌>>=◌
   load_unread n e = rw e
 
@@ -46,8 +47,8 @@ module _ (sheet slots kinds words state answer : List ℕ) where
           }
 
       module _ (there : words_check state answer p ≡ Ok tt) where
-        pub load_refused : (k : ℕ) → x.answer ≡ Err k
-            → record { number = k; slots = slots'; kinds = kinds'; words = words'; state = state; answer = answer } ≡ load_call sheet slots kinds words state answer
+        pub load_refused : (k : Refusal) → x.answer ≡ Err k
+            → record { number = number_of k; slots = slots'; kinds = kinds'; words = words'; state = state; answer = answer } ≡ load_call sheet slots kinds words state answer
         unfolding load_call ◌>>=◌
         load_refused k f = rw (read, there, ← gave, f)
 

@@ -16,15 +16,12 @@ use Rattle.workbook.specs.StateWords.{state_in, state_size, with_state, lengths_
 use Rattle.workbook.specs.Calls.{state_after, answer_after, unchanged, step_call, forward_call, back_call, with_steps, run_call}
 use Rattle.std.specs.Prelude.{Ok, Err}
 use Rattle.rules.specs.declared.refusals.Refusal.{Refusal}
-use Rattle.rules.specs.declared.halts.Halt.TheVariants.{Return, Throw, Refused}
 use Rattle.rules.specs.Decisions.{Decision, End, Pressed}
 
 -- a step has the number that it has as a press
 step_number : (d : Decision) → (pressed_answer (pressed_by d)).number ≡ (decision_answer d).number
 step_number (Ok u) = refl
-step_number (Err (Return v)) = refl
-step_number (Err Throw) = refl
-step_number (Err (Refused n)) = refl
+step_number (Err h) = refl
 
 -- a press that is made: the library's function gave s and a and left the slots and the log, and s and a were left in the state and the answer
 module _ (x : Machine) (slots log state answer : List ℕ) (sizes : sizes_check state ≡ Ok tt) (s : State) (a : Pressed) (number : ℕ) (after log' state' answer' : List ℕ)

@@ -1,4 +1,5 @@
 -- A list of presses of which each is refused by question 1, and the call by the answers to its questions. Assumes nothing.
+use native.Mathlib.Omega.{arith}
 use Prim.Native.Nat.{ℕ, ◌+◌, ◌*◌, ◌≤◌, ◌<◌}
 use mathlib.Core.Path.{◌≡◌, refl, ap, ◌∙◌}
 use mathlib.Core.Bool.{Bool, true, false}
@@ -15,6 +16,7 @@ use Rattle.rules.specs.History.{kept}
 use Rattle.rules.specs.PlainWalk.{Press, forward, back}
 use Rattle.rules.specs.Walk.{press_of, walk_of}
 use Rattle.rules.specs.Presses.{press_of_byte, presses_of_bytes, answers_words, Replayed, replayed, replay_of}
+use Rattle.rules.proofs.RefusalNumbers.{number_above}
 use Rattle.rules.proofs.Step.{refused_by_frame}
 use Rattle.rules.proofs.History.{forward_by_lem, back_frame, back_by_lem}
 use Rattle.rules.proofs.Replay.{replay_made}
@@ -24,6 +26,7 @@ use Rattle.std.specs.Prelude.{Ok, Err}
 use Rattle.rules.specs.declared.refusals.Refusal.{Refusal}
 use Rattle.rules.specs.declared.halts.Halt.TheVariants.{Refused}
 use Rattle.rules.specs.Decisions.{Decision}
+use Rattle.rules.specs.Refusals.{number_of}
 
 -- ---- question 1 says no of a frame that its slots do not hold
 
@@ -43,8 +46,8 @@ module _ (l : Method) (s : State) (slots : List ℕ) (no : frame_check l s (leng
   unfolding press_of
   press_refused forward log =
       forward_by_lem s slots log (core_machine l) (record { decision = Err (Refused Refusal.Lengths); scratch = 0 })
-      (ap (λ (d : Decision). record { decision = d; scratch = 0 }) (refused_by_frame l (length slots) s (frame s slots) 1 no))
-  press_refused back log = back_by_lem l s slots log _ (back_frame l s slots log 1 no)
+      (ap (λ (d : Decision). record { decision = d; scratch = 0 }) (refused_by_frame l (length slots) s (frame s slots) _ no))
+  press_refused back log = back_by_lem l s slots log _ (back_frame l s slots log _ no)
 
   walk_refused : (bytes log : List ℕ) → walk_of (core_machine l) (presses_of_bytes bytes) s slots log ≡ record { state = s; slots = slots; log = log; answers = all_refused bytes }
   unfolding walk_of presses_of_bytes all_refused
@@ -81,3 +84,10 @@ module _ (x : Machine) (slots log state bytes answers : List ℕ) where
           → record { number = 0; slots = after; log = log'; state = state'; answer = answers' } ≡ presses_call x slots log state bytes answers
       unfolding presses_call ◌else◌ ◌>>◌
       list_made e number s after log' state' answers' r f = rw (le-leb (3 * length bytes) (length answers) room, le-leb state_size (length state) enough, e, ← r, f)
+
+-- a list whose answers have room is not refused
+pub never_refused : (x : Machine) (bytes : List ℕ) (s : State) (slots log answers : List ℕ) → 3 * length bytes ≤ length answers
+    → (k : Refusal) (r : Replayed) → r ≡ replay_of x bytes s slots log answers → r.number ≡ number_of k → ⊥
+never_refused x bytes s slots log answers room k r e h =
+    let made : r.number ≡ 0 = ap (λ (q : Replayed). q.number) (e ∙ replay_made x bytes s slots log answers room) in
+    omega (arith, number_above k)

@@ -17,6 +17,7 @@ use Rattle.workbook.specs.StateWords.{state_in, state_size, with_state, lengths_
 use Rattle.rules.specs.declared.refusals.Refusal.{Refusal}
 use Rattle.rules.specs.declared.halts.Halt.TheVariants.{Return, Throw, Refused}
 use Rattle.rules.specs.Decisions.{Pressed}
+use Rattle.rules.specs.Refusals.{number_of}
 
 -- ---- step, forward and back
 
@@ -29,17 +30,15 @@ pub record Called : Type 0 where
 
 -- the state is written where the press is granted
 abbrev pub state_after : List ℕ → State → Pressed → List ℕ
-state_after ws s (Ok tt) = with_state ws s
-state_after ws s (Err (Return v)) = ws
-state_after ws s (Err Throw) = ws
-state_after ws s (Err (Refused n)) = ws
+state_after ws s (Ok t) = with_state ws s
+state_after ws s (Err h) = ws
 
 -- answer words 0 and 1 are written where there is a return
 abbrev pub with_value : List ℕ → Value → List ℕ
 with_value answer v = paste answer 0 ((value_answer v).low ∷ (value_answer v).high ∷ []) 2
 
 abbrev pub answer_after : List ℕ → Pressed → List ℕ
-answer_after answer (Ok tt) = answer
+answer_after answer (Ok t) = answer
 answer_after answer (Err (Return v)) = with_value answer v
 answer_after answer (Err Throw) = answer
 answer_after answer (Err (Refused n)) = answer
@@ -53,7 +52,7 @@ unchanged slots log state answer n = record { number = n; slots = slots; log = l
 
 abbrev pub call_by : List ℕ → List ℕ → List ℕ → List ℕ → AfterPress → Check (Unit {0}) → Called
 call_by slots log state answer o (Ok t) = called state answer o
-call_by slots log state answer o (Err n) = unchanged slots log state answer n
+call_by slots log state answer o (Err r\') = unchanged slots log state answer (number_of r\')
 
 abbrev pub stepped : List ℕ → List ℕ → Stepped → Called
 stepped state answer r =
@@ -62,7 +61,7 @@ stepped state answer r =
 
 abbrev pub step_call_by : List ℕ → List ℕ → List ℕ → Stepped → Check (Unit {0}) → Called
 step_call_by slots state answer r (Ok t) = stepped state answer r
-step_call_by slots state answer r (Err n) = unchanged slots [] state answer n
+step_call_by slots state answer r (Err r\') = unchanged slots [] state answer (number_of r\')
 
 unfoldable pub step_call : Machine → List ℕ → List ℕ → List ℕ → Called
 step_call x slots state answer = step_call_by slots state answer (step_of x (state_in state) slots) (do
@@ -78,7 +77,7 @@ forward_call x slots log state answer = call_by slots log state answer (forward_
 abbrev pub back_by : List ℕ → List ℕ → List ℕ → AfterPress → Check (Unit {0}) → Called
 back_by slots log state o (Ok t) =
     record { number = (pressed_answer o.answer).number; slots = o.slots; log = o.log; state = state_after state o.state o.answer; answer = [] }
-back_by slots log state o (Err n) = unchanged slots log state [] n
+back_by slots log state o (Err r\') = unchanged slots log state [] (number_of r\')
 
 unfoldable pub back_call : Method → List ℕ → List ℕ → List ℕ → Called
 back_call l slots log state = back_by slots log state (back_of l (state_in state) slots log) (do
@@ -99,11 +98,11 @@ ran_call state answer r =
 -- sizes that no state has are question 1's no: the four answer words are 0
 abbrev pub run_by : List ℕ → List ℕ → List ℕ → Ran → Check (Unit {0}) → Called
 run_by slots state answer r (Ok t) = ran_call state answer r
-run_by slots state answer r (Err n) = unchanged slots [] state (with_steps answer 0 0 0) n
+run_by slots state answer r (Err r\') = unchanged slots [] state (with_steps answer 0 0 0) (number_of r\')
 
 abbrev pub run_for : List ℕ → List ℕ → List ℕ → Ran → Check (Unit {0}) → Called
 run_for slots state answer r (Ok t) = run_by slots state answer r (sizes_check state)
-run_for slots state answer r (Err n) = unchanged slots [] state answer n
+run_for slots state answer r (Err r\') = unchanged slots [] state answer (number_of r\')
 
 unfoldable pub run_call : Machine → List ℕ → List ℕ → List ℕ → ℕ → Called
 run_call x slots state answer budget = run_for slots state answer (run_of x budget (state_in state) slots) (lengths_check state answer 4)
@@ -125,7 +124,7 @@ presses_by bytes slots log state answers r (Err n) = unchanged slots log state (
 
 abbrev pub presses_for : List ℕ → List ℕ → List ℕ → List ℕ → List ℕ → Replayed → Check (Unit {0}) → Called
 presses_for bytes slots log state answers r (Ok t) = presses_by bytes slots log state answers r (sizes_check state)
-presses_for bytes slots log state answers r (Err n) = unchanged slots log state answers n
+presses_for bytes slots log state answers r (Err r\') = unchanged slots log state answers (number_of r\')
 
 unfoldable pub presses_call : Machine → List ℕ → List ℕ → List ℕ → List ℕ → List ℕ → Called
 presses_call x slots log state bytes answers =
@@ -148,10 +147,10 @@ abbrev pub parts_of : Loaded → List ℕ
 parts_of x = x.code ∷ x.code_length ∷ x.handlers ∷ x.handlers_length ∷ []
 
 -- an accepted load writes the state and the parts
-abbrev pub load_by : List ℕ → List ℕ → AfterLoad → Load → LoadCalled
-load_by state answer m Ok tt =
+abbrev pub load_by : List ℕ → List ℕ → AfterLoad → Check (Unit {0}) → LoadCalled
+load_by state answer m (Ok t) =
     record {
-      number = (load_answer Ok tt).number;
+      number = (load_answer (Ok t)).number;
       slots = m.slots;
       kinds = m.kinds;
       words = m.words;
@@ -170,7 +169,7 @@ words_check state answer p = do
 
 abbrev pub load_for : List ℕ → List ℕ → List ℕ → List ℕ → List ℕ → List ℕ → Check (Unit {0}) → LoadCalled
 load_for sheet slots kinds words state answer (Ok t) = let m = load_of sheet slots kinds words in load_by state answer m m.loaded.answer
-load_for sheet slots kinds words state answer (Err n) = record { number = n; slots = slots; kinds = kinds; words = words; state = state; answer = answer }
+load_for sheet slots kinds words state answer (Err n) = record { number = number_of n; slots = slots; kinds = kinds; words = words; state = state; answer = answer }
 
 unfoldable pub load_call : List ℕ → List ℕ → List ℕ → List ℕ → List ℕ → List ℕ → LoadCalled
 load_call sheet slots kinds words state answer = load_for sheet slots kinds words state answer (do

@@ -6,9 +6,9 @@ ghost use Rattle.workbook.specs.Calls.{state_after, answer_after, with_value, wi
 
 use crate::state_words::write_state;
 use frame::write_words;
-use history::{pressed_answer, value_answer};
+use history::{halt_answer, pressed_answer, value_answer};
 use integers::{high_word, low_word};
-use rules::{Answer, End, Pressed, State};
+use rules::{Answer, End, Halt, Pressed, State};
 use values::Value;
 
 // What ended a run.
@@ -16,22 +16,12 @@ pub(crate) fn end_answer(end: End) -> Answer
     ensures { result ≡ end_answer end }
 {
     match end {
-        End::Stopped => Answer {
+        None => Answer {
             number: 120,
             low: 0,
             high: 0,
         },
-        End::Return(v) => value_answer(v),
-        End::Throw => Answer {
-            number: 110,
-            low: 0,
-            high: 0,
-        },
-        End::Refused(n) => Answer {
-            number: n,
-            low: 0,
-            high: 0,
-        },
+        Some(halt) => halt_answer(halt),
     }
 }
 
@@ -40,8 +30,9 @@ fn leave_state(state: &mut [u32], s: State, a: Pressed)
     requires { state_size ≤ length state.old }
     ensures { state.new ≡ state_after state.old s a }
 {
-    if let Pressed::Granted = a {
-        write_state(state, s);
+    match a {
+        Ok(()) => write_state(state, s),
+        Err(_) => {}
     }
 }
 
@@ -55,13 +46,26 @@ fn write_value(answer: &mut [u32], v: Value)
     write_words(answer, 0, &words, 2);
 }
 
+// Writes the value of a return.
+fn leave_returned(answer: &mut [u32], halt: Halt)
+    requires { 2 ≤ length answer.old }
+    ensures { answer.new ≡ answer_after answer.old (Err halt) }
+{
+    match halt {
+        Halt::Return(v) => write_value(answer, v),
+        Halt::Throw => {}
+        Halt::Refused(_) => {}
+    }
+}
+
 // Writes the value where a press meets a return.
 pub(crate) fn leave_value(answer: &mut [u32], a: Pressed)
     requires { 2 ≤ length answer.old }
     ensures { answer.new ≡ answer_after answer.old a }
 {
-    if let Pressed::Return(v) = a {
-        write_value(answer, v);
+    match a {
+        Ok(()) => {}
+        Err(halt) => leave_returned(answer, halt),
     }
 }
 

@@ -9,28 +9,18 @@ ghost use Rattle.workbook.specs.Demand3.{FromAnyLoadCall};
 
 use crate::state_words::{STATE_WORDS, read_state, sizes_fit, write_state};
 use history::presses;
+use rules::{Method, Refusal};
 use sheet::loaded_state;
 
 // Answers each press with question 1's no, as every press of a frame that its slots do not hold is answered.
-fn refuse_presses(
-    code: &[u8],
-    kinds: &[u8],
-    words: &[u32],
-    handlers: &[u8],
-    log: &mut [u32],
-    bytes: &[u8],
-    answers: &mut [u32],
-)
+fn refuse_presses(method: &Method, log: &mut [u32], bytes: &[u8], answers: &mut [u32])
     requires { 3 * length bytes.now ≤ length answers.old }
     ensures log_unchanged { log.new ≡ log.old }
     ensures answers_after { answers.new ≡ paste answers.old 0 (answers_words (all_refused bytes.now)) (3 * length bytes.now) }
 {
     let mut slots = [0u32; 1];
-    presses(
-        code,
-        kinds,
-        words,
-        handlers,
+    let _ = presses(
+        method,
         &mut slots,
         log,
         loaded_state(1, 1, 0),
@@ -56,17 +46,27 @@ pub extern "C" fn workbook_presses(
     ensures from_any_load_call { FromAnyLoadCall (method code.now kinds.now words.now handlers.now) slots.old log.old state.old bytes.now answers.old (record { number = result; slots = slots.new; log = log.new; state = state.new; answer = answers.new }) }
 {
     if answers.len() / 3 < bytes.len() {
-        return 1;
+        return Refusal::Lengths.number();
     }
     if state.len() < STATE_WORDS {
-        return 1;
+        return Refusal::Lengths.number();
     }
+    let method = Method {
+        code,
+        kinds,
+        words,
+        handlers,
+    };
     if !sizes_fit(state) {
-        refuse_presses(code, kinds, words, handlers, log, bytes, answers);
+        refuse_presses(&method, log, bytes, answers);
         return 0;
     }
-    let s = read_state(state);
-    let replay = presses(code, kinds, words, handlers, slots, log, s, bytes, answers);
-    write_state(state, replay.state);
-    0
+    let made = presses(&method, slots, log, read_state(state), bytes, answers);
+    match made {
+        Ok(after) => {
+            write_state(state, after);
+            0
+        }
+        Err(refusal) => refusal.number(),
+    }
 }

@@ -1,15 +1,15 @@
 // The load.
 ghost use Rattle.std.specs.Prelude.{◌≡◌, ◌+◌, ◌^◌, ◌≤◌, ◌<◌, length};
 ghost use Rattle.std.proofs.Math.Seq.{paste};
-ghost use Rattle.rules.specs.Check.{passed, is_passed};
+ghost use Rattle.rules.specs.Check.{is_passed};
 ghost use Rattle.rules.specs.Sheet.{sheet_check};
 ghost use Rattle.workbook.specs.Calls.{parts_of, words_check, load_call};
 ghost use Rattle.workbook.specs.Demand3.{FromThisLoad};
 
 use crate::state_words::{ANSWER_WORDS, are_lent, write_state};
 use frame::write_words;
-use rules::{Load, Loaded, Reading};
-use sheet::{Record, check_sheet, load_read};
+use rules::{Loaded, Reading, Refusal};
+use sheet::{check_sheet, load_read};
 
 // Whether there are state and answer words, and the length of the handlers is a word.
 fn has_words(state: &[u32], answer: &[u32], p: Reading) -> bool
@@ -47,17 +47,17 @@ fn load_lent(
     answer: &mut [u32],
     p: Reading,
 ) -> u32
-    requires { sheet_check sheet.now ≡ passed p }
+    requires { sheet_check sheet.now ≡ Ok p }
     ensures { record { number = result; slots = slots.new; kinds = kinds.new; words = words.new; state = state.new; answer = answer.new } ≡ load_call sheet.now slots.old kinds.old words.old state.old answer.old }
 {
     if !has_words(state, answer, p) {
-        return 26;
+        return Refusal::LentMemory.number();
     }
     let loaded = load_read(sheet, slots, kinds, words, p);
     let accepted = loaded.answer;
     match accepted {
-        Load::Refused(n) => n,
-        Load::Accepted => {
+        Err(refusal) => refusal.number(),
+        Ok(()) => {
             write_state(state, loaded.state);
             write_parts(answer, loaded);
             0
@@ -80,7 +80,7 @@ pub extern "C" fn workbook_load(
 {
     let checked = check_sheet(sheet);
     match checked {
-        Record::Refused(n) => n,
-        Record::Read(p) => load_lent(sheet, slots, kinds, words, state, answer, p),
+        Err(refusal) => refusal.number(),
+        Ok(p) => load_lent(sheet, slots, kinds, words, state, answer, p),
     }
 }

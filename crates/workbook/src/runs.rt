@@ -6,6 +6,7 @@ ghost use Rattle.workbook.specs.Calls.{run_call};
 use crate::leaving::{end_answer, write_steps};
 use crate::state_words::{ANSWER_WORDS, are_lent, read_state, sizes_fit, write_state};
 use interpreter::run;
+use rules::{Method, Refusal};
 
 // A run. One that is refused by questions 1 to 3 leaves the state as it was.
 #[unsafe(no_mangle)]
@@ -22,21 +23,19 @@ pub extern "C" fn workbook_run(
     ensures { record { number = result; slots = slots.new; log = []; state = state.new; answer = answer.new } ≡ run_call (machine code.now kinds.now words.now handlers.now) slots.old state.old answer.old budget }
 {
     if !are_lent(state, answer, ANSWER_WORDS) {
-        return 1;
+        return Refusal::Lengths.number();
     }
     if !sizes_fit(state) {
         write_steps(answer, 0, 0, 0);
-        return 1;
+        return Refusal::Lengths.number();
     }
-    let ran = run(
+    let method = Method {
         code,
         kinds,
         words,
         handlers,
-        slots,
-        read_state(state),
-        budget,
-    );
+    };
+    let ran = run(&method, slots, read_state(state), budget);
     let ended = ran.end;
     let end = end_answer(ended);
     write_state(state, ran.state);

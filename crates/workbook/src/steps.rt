@@ -8,6 +8,7 @@ use crate::leaving::{leave, leave_value};
 use crate::state_words::{ANSWER_WORDS, STATE_WORDS, are_lent, read_state, sizes_fit};
 use history::{back, forward, pressed_by};
 use interpreter::step;
+use rules::{Method, Refusal};
 
 // A step without history.
 #[unsafe(no_mangle)]
@@ -23,12 +24,18 @@ pub extern "C" fn workbook_step(
     ensures { record { number = result; slots = slots.new; log = []; state = state.new; answer = answer.new } ≡ step_call (machine code.now kinds.now words.now handlers.now) slots.old state.old answer.old }
 {
     if !are_lent(state, answer, ANSWER_WORDS) {
-        return 1;
+        return Refusal::Lengths.number();
     }
     if !sizes_fit(state) {
-        return 1;
+        return Refusal::Lengths.number();
     }
-    let stepped = step(code, kinds, words, handlers, slots, read_state(state));
+    let method = Method {
+        code,
+        kinds,
+        words,
+        handlers,
+    };
+    let stepped = step(&method, slots, read_state(state));
     let decision = stepped.decision;
     let a = pressed_by(decision);
     leave_value(answer, a);
@@ -50,12 +57,18 @@ pub extern "C" fn workbook_forward(
     ensures { record { number = result; slots = slots.new; log = log.new; state = state.new; answer = answer.new } ≡ forward_call (machine code.now kinds.now words.now handlers.now) slots.old log.old state.old answer.old }
 {
     if !are_lent(state, answer, ANSWER_WORDS) {
-        return 1;
+        return Refusal::Lengths.number();
     }
     if !sizes_fit(state) {
-        return 1;
+        return Refusal::Lengths.number();
     }
-    let press = forward(code, kinds, words, handlers, slots, log, read_state(state));
+    let method = Method {
+        code,
+        kinds,
+        words,
+        handlers,
+    };
+    let press = forward(&method, slots, log, read_state(state));
     let a = press.answer;
     leave_value(answer, a);
     leave(state, press.state, a)
@@ -74,12 +87,18 @@ pub extern "C" fn workbook_back(
     ensures { (handlers : List ℕ) → record { number = result; slots = slots.new; log = log.now; state = state.new; answer = [] } ≡ back_call (method code.now kinds.now words.now handlers) slots.old log.now state.old }
 {
     if state.len() < STATE_WORDS {
-        return 1;
+        return Refusal::Lengths.number();
     }
     if !sizes_fit(state) {
-        return 1;
+        return Refusal::Lengths.number();
     }
-    let press = back(code, kinds, words, slots, log, read_state(state));
+    let method = Method {
+        code,
+        kinds,
+        words,
+        handlers: &[],
+    };
+    let press = back(&method, slots, log, read_state(state));
     let a = press.answer;
     leave(state, press.state, a)
 }

@@ -16,4 +16,4 @@ returns-then-not-are_lent c = let a = c.args in
 pub returns : goal.returns
 returns c = let a = c.args in
     let long = words_long a.state.now a.answer.now a.p (sym c.are_lent.ensures ∙ not-false _ c.if-not-are_lent.false-raw) in
-    word_most (handlers_length a.p) ∙ last_asked (ltb (handlers_length a.p) (2 ^ 32)) 26 ∙ sym (ap is_passed long)
+    word_most (handlers_length a.p) ∙ last_asked (ltb (handlers_length a.p) (2 ^ 32)) _ ∙ sym (ap is_passed long)

@@ -10,7 +10,7 @@ use Rattle.workbook.proofs.runs.workbook_run.Goals as goal
 pub returns-then-not-are_lent : goal.returns-then-not-are_lent
 returns-then-not-are_lent c = let a = c.args in
     let l = machine a.code.now a.kinds.now a.words.now a.handlers.now in
-    run_short l a.slots.now a.state.now a.answer.now a.budget (lengths_no _ _ 4 (sym c.are_lent.ensures ∙ not-true _ c.if-not-are_lent.true-raw))
+    rw c.number.ensures (run_short l a.slots.now a.state.now a.answer.now a.budget (lengths_no _ _ 4 (sym c.are_lent.ensures ∙ not-true _ c.if-not-are_lent.true-raw)))
 
 pub sizes_fit-requires : goal.sizes_fit-requires
 sizes_fit-requires c = (lengths_yes c.args.state.now c.args.answer.now 4 (sym c.are_lent.ensures ∙ not-false _ c.if-not-are_lent.false-raw)).0
@@ -21,7 +21,7 @@ write_steps-requires c = (lengths_yes c.args.state.now c.args.answer.now 4 (sym 
 pub returns-then-not-sizes_fit : goal.returns-then-not-sizes_fit
 returns-then-not-sizes_fit c = let a = c.args in
     let l = machine a.code.now a.kinds.now a.words.now a.handlers.now in
-    run_sizes l a.slots.now a.state.now a.answer.now a.budget (is_passed_lem _ (sym c.are_lent.ensures ∙ not-false _ c.if-not-are_lent.false-raw)) (sizes_no _ (sym c.sizes_fit.ensures ∙ not-true _ c.if-not-sizes_fit.true-raw)) _ c.write_steps.ensures
+    rw c.number-then-not-sizes_fit.ensures (run_sizes l a.slots.now a.state.now a.answer.now a.budget (is_passed_lem _ (sym c.are_lent.ensures ∙ not-false _ c.if-not-are_lent.false-raw)) (sizes_no _ (sym c.sizes_fit.ensures ∙ not-true _ c.if-not-sizes_fit.true-raw)) _ c.write_steps.ensures)
 
 pub read_state-requires : goal.read_state-requires
 read_state-requires c = record { state_size_in_bounds = (lengths_yes c.args.state.now c.args.answer.now 4 (sym c.are_lent.ensures ∙ not-false _ c.if-not-are_lent.false-raw)).0; state_bound = sizes_yes c.args.state.now (sym c.sizes_fit.ensures ∙ not-false _ c.if-not-sizes_fit.false-raw) }

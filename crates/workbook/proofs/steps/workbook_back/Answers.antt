@@ -13,13 +13,13 @@ pub returns-then-state-lt-STATE_WORDS : goal.returns-then-state-lt-STATE_WORDS
 returns-then-state-lt-STATE_WORDS c = λ handlers.
     let a = c.args in
     let l = method a.code.now a.kinds.now a.words.now handlers in
-    back_short l a.slots.now a.log.now a.state.now c.if-state-lt-STATE_WORDS.true
+    rw c.number.ensures (back_short l a.slots.now a.log.now a.state.now c.if-state-lt-STATE_WORDS.true)
 
 pub returns-then-not-sizes_fit : goal.returns-then-not-sizes_fit
 returns-then-not-sizes_fit c = λ handlers.
     let a = c.args in
     let l = method a.code.now a.kinds.now a.words.now handlers in
-    back_sizes l a.slots.now a.log.now a.state.now c.if-state-lt-STATE_WORDS.false (sizes_no _ (sym c.sizes_fit.ensures ∙ not-true _ c.if-not-sizes_fit.true-raw))
+    rw c.number-then-not-sizes_fit.ensures (back_sizes l a.slots.now a.log.now a.state.now c.if-state-lt-STATE_WORDS.false (sizes_no _ (sym c.sizes_fit.ensures ∙ not-true _ c.if-not-sizes_fit.true-raw)))
 
 pub read_state-requires : goal.read_state-requires
 read_state-requires c = record { state_size_in_bounds = c.if-state-lt-STATE_WORDS.false; state_bound = sizes_yes c.args.state.now (sym c.sizes_fit.ensures ∙ not-false _ c.if-not-sizes_fit.false-raw) }

@@ -15,14 +15,14 @@ use Rattle.workbook.proofs.steps.workbook_step.Goals as goal
 
 pub returns-then-not-are_lent : goal.returns-then-not-are_lent
 unfolding step_call
-returns-then-not-are_lent c = no_step _ _ _ (step_of (machine c.args.code.now c.args.kinds.now c.args.words.now c.args.handlers.now) (state_in c.args.state.now) c.args.slots.now) _ _ (lengths_no _ _ 4 (sym c.are_lent.ensures ∙ not-true _ c.if-not-are_lent.true-raw))
+returns-then-not-are_lent c = rw c.number.ensures (no_step _ _ _ (step_of (machine c.args.code.now c.args.kinds.now c.args.words.now c.args.handlers.now) (state_in c.args.state.now) c.args.slots.now) _ _ (lengths_no _ _ 4 (sym c.are_lent.ensures ∙ not-true _ c.if-not-are_lent.true-raw)))
 
 pub sizes_fit-requires : goal.sizes_fit-requires
 sizes_fit-requires c = (lengths_yes c.args.state.now c.args.answer.now 4 (sym c.are_lent.ensures ∙ not-false _ c.if-not-are_lent.false-raw)).0
 
 pub returns-then-not-sizes_fit : goal.returns-then-not-sizes_fit
 unfolding step_call
-returns-then-not-sizes_fit c = no_step_second _ _ _ (step_of (machine c.args.code.now c.args.kinds.now c.args.words.now c.args.handlers.now) (state_in c.args.state.now) c.args.slots.now) _ _ (is_passed_lem _ (sym c.are_lent.ensures ∙ not-false _ c.if-not-are_lent.false-raw)) (sizes_no _ (sym c.sizes_fit.ensures ∙ not-true _ c.if-not-sizes_fit.true-raw))
+returns-then-not-sizes_fit c = rw c.number-then-not-sizes_fit.ensures (no_step_second _ _ _ (step_of (machine c.args.code.now c.args.kinds.now c.args.words.now c.args.handlers.now) (state_in c.args.state.now) c.args.slots.now) _ _ (is_passed_lem _ (sym c.are_lent.ensures ∙ not-false _ c.if-not-are_lent.false-raw)) (sizes_no _ (sym c.sizes_fit.ensures ∙ not-true _ c.if-not-sizes_fit.true-raw)))
 
 pub read_state-requires : goal.read_state-requires
 read_state-requires c = record { state_size_in_bounds = (lengths_yes c.args.state.now c.args.answer.now 4 (sym c.are_lent.ensures ∙ not-false _ c.if-not-are_lent.false-raw)).0; state_bound = sizes_yes c.args.state.now (sym c.sizes_fit.ensures ∙ not-false _ c.if-not-sizes_fit.false-raw) }
