@@ -31,5 +31,8 @@ pub(crate) fn write_update(target: &mut [u32], at: usize, u: Update)
         write_two(target, at, u.words[0], u.words[1]);
         return;
     }
-    write_words(target, at, &u.words, u.many as usize);
+    // a copy of its own, so that an update can stay in registers
+    let [a, b, c, d, e, f] = u.words;
+    let words = [a, b, c, d, e, f];
+    write_words(target, at, &words, u.many as usize);
 }
