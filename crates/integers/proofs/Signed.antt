@@ -1,84 +1,58 @@
--- A word of a kind read as a number of the machine's signed type of as many bits, and written back: quotients, remainders and
--- shifts with the sign are computed there. Assumes nothing.
-use Rattle.std.proofs.Common.{◌≡◌, ℕ, zero, suc, ◌-◌, ◌/◌, ◌^◌, ◌<◌, ◌≤◌, Bool, true, false, cond, ltb, ℤ, pos, negsuc, neg_ℤ, sym, refl, ap, ◌∙◌, subst, ap₂, lt_of_le_of_lt, div-le_self, arith}
+-- A word read as a number of the machine's signed type of as many bits, and a number written as a word: quotients, remainders, shifts
+-- with the sign and extensions are computed there. Assumes nothing.
+use Rattle.std.proofs.Common.{◌≡◌, ℕ, zero, suc, ◌-◌, ◌/◌, ◌^◌, ◌<◌, ◌≤◌, Bool, true, false, cond, ltb, ℤ, pos, negsuc, neg_ℤ, sym, refl, ap, ◌∙◌, subst, ap₂, div-le_self, arith}
 use Rattle.std.specs.Int.{int_wrapping_div}
 use Rattle.std.proofs.lemmas.Int.{of_z-to_z}
 use lib.Pow.{pow-lt}
 use lib.Signed.{mag, lt_z, quot_z, rem_z, shr_z, mag_rem, mag_shr}
-use mir.Syntax.{Width, w32, w64}
+use mir.Syntax.{Width, w8, w16, w32, w64, w128}
 use mir.Val.{bits, hbits, of_z, to_z, sel}
 use mir.ValLaws.{to_z-Fits}
-use Rattle.values.specs.Kinds.{Kind, int, long, float, double, reference, any}
 use Rattle.values.specs.Integers.{signed, low}
 use Rattle.values.proofs.Integers.{low_plus, low_minus}
 use Rattle.values.proofs.LowBits.{low_lt}
-use Rattle.integers.specs.Widths.{below_sign, width, number, low_bits}
 
--- the signed type with the bits of a kind
-abbrev pub machine : Kind → Width
-machine int = w32
-machine long = w64
-machine float = w32
-machine double = w64
-machine reference = w32
-machine any = w32
+one_more : (w : Width) → bits w ≡ suc (hbits w)
+one_more w8 = refl
+one_more w16 = refl
+one_more w32 = refl
+one_more w64 = refl
+one_more w128 = refl
 
-as_wide : (k : Kind) → bits (machine k) ≡ width k
-as_wide int = refl
-as_wide long = refl
-as_wide float = refl
-as_wide double = refl
-as_wide reference = refl
-as_wide any = refl
-
-signed_alike : (k : Kind) → hbits (machine k) ≡ below_sign k
-signed_alike int = refl
-signed_alike long = refl
-signed_alike float = refl
-signed_alike double = refl
-signed_alike reference = refl
-signed_alike any = refl
+half_lt : (w : Width) → 2 ^ hbits w < 2 ^ bits w
+half_lt w = pow-lt {i = hbits w} {j = bits w} (omega (arith, one_more w))
 
 -- ---- a word read
 
-module _ (k : Kind) (a : ℕ) where
-  number_is : to_z (machine k) a ≡ number k a
-  unfolding number signed
-  number_is = ap₂ (λ (h w : ℕ). sel (ltb a (2 ^ h)) (pos a) (negsuc (2 ^ w - suc a))) (signed_alike k) (as_wide k) ∙ go (ltb a (2 ^ below_sign k))
+module _ (w : Width) (a : ℕ) where
+  signed_is : to_z w a ≡ signed (hbits w) a
+  unfolding signed
+  signed_is = ap (λ (n : ℕ). sel (ltb a (2 ^ hbits w)) (pos a) (negsuc (2 ^ n - suc a))) (one_more w) ∙ go (ltb a (2 ^ hbits w))
     where
-      go : (t : Bool) → sel t (pos a) (negsuc (2 ^ width k - suc a)) ≡ cond t (pos a) (negsuc (2 ^ width k - suc a))
+      go : (t : Bool) → sel t (pos a) (negsuc (2 ^ suc (hbits w) - suc a)) ≡ cond t (pos a) (negsuc (2 ^ suc (hbits w) - suc a))
       go true = refl
       go false = refl
 
-  module _ (A : a < 2 ^ width k) where
-    fits : a < 2 ^ bits (machine k)
-    fits = subst (λ (n : ℕ). a < 2 ^ n) (sym (as_wide k)) A
-
-    word_back : of_z (machine k) (to_z (machine k) a) ≡ a
-    word_back = of_z-to_z (machine k) a fits
-
+  module _ (A : a < 2 ^ bits w) where
     -- what a cast makes of it, as the next operation reads it
-    pub read : {s : ℤ} → s ≡ to_z (machine k) a → to_z (machine k) (of_z (machine k) s) ≡ number k a
-    read e = ap (λ (z : ℤ). to_z (machine k) (of_z (machine k) z)) e ∙ ap (to_z (machine k)) word_back ∙ number_is
+    read : {s : ℤ} → s ≡ to_z w a → to_z w (of_z w s) ≡ signed (hbits w) a
+    read e = ap (λ (z : ℤ). to_z w (of_z w z)) e ∙ ap (to_z w) (of_z-to_z w a A) ∙ signed_is
 
-    -- it is in the signed type's range
-    in_range : mag (number k a) < 2 ^ below_sign k
-    in_range = subst (λ (h : ℕ). mag (number k a) < 2 ^ h) (signed_alike k) (subst (λ (z : ℤ). mag z < 2 ^ hbits (machine k)) number_is (to_z-Fits (machine k) a (record { fits = fits })).sfits)
+    in_range : mag (signed (hbits w) a) < 2 ^ hbits w
+    in_range = subst (λ (z : ℤ). mag z < 2 ^ hbits w) signed_is (to_z-Fits w a (record { fits = A })).sfits
 
 -- ---- a number written
 
-word_is : (k : Kind) (z : ℤ) → mag z < 2 ^ width k → of_z (machine k) z ≡ low_bits k z
-unfolding low_bits
-word_is k (pos n) l = sym (low_plus (width k) n l)
-word_is k (negsuc n) l = ap (λ (w : ℕ). 2 ^ w - suc n) (as_wide k) ∙ sym (low_minus (width k) n l)
+word_is : (w : Width) (z : ℤ) → mag z < 2 ^ bits w → of_z w z ≡ low (bits w) z
+word_is w (pos n) l = sym (low_plus (bits w) n l)
+word_is w (negsuc n) l = sym (low_minus (bits w) n l)
 
-module _ (k : Kind) (z : ℤ) (l : mag z < 2 ^ width k) where
-  of_z_lt : of_z (machine k) z < 2 ^ width k
-  unfolding low_bits
-  of_z_lt = subst (λ (n : ℕ). n < 2 ^ width k) (sym (word_is k z l)) (low_lt (width k) z)
+module _ (w : Width) (z : ℤ) (l : mag z < 2 ^ bits w) where
+  back : of_z w (to_z w (of_z w z)) ≡ of_z w z
+  back = of_z-to_z w (of_z w z) (subst (λ (n : ℕ). n < 2 ^ bits w) (sym (word_is w z l)) (low_lt (bits w) z))
 
-  pub written : {r : ℕ} → r ≡ of_z (machine k) (to_z (machine k) (of_z (machine k) z)) → r ≡ low_bits k z
-  written e = e ∙ word_back k (of_z (machine k) z) of_z_lt ∙ word_is k z l
+  written : {r : ℕ} → r ≡ of_z w (to_z w (of_z w z)) → r ≡ low (bits w) z
+  written e = e ∙ back ∙ word_is w z l
 
 -- ---- the operations
 
@@ -92,29 +66,32 @@ mag_quotient (pos a) (negsuc b) = omega (arith, mag_negative (a / suc b), div-le
 mag_quotient (negsuc a) (pos b) = omega (arith, mag_negative (suc a / b), div-le_self (suc a) b)
 mag_quotient (negsuc a) (negsuc b) = div-le_self (suc a) (suc b)
 
-half_lt : (h : ℕ) → 2 ^ h < 2 ^ suc h
-half_lt h = pow-lt {i = h} {j = suc h} (omega arith)
+module _ (w : Width) (a : ℕ) (A : a < 2 ^ bits w) {s : ℤ} (S : s ≡ to_z w a) where
+  -- a result that is not much further from 0 has the same bits
+  kept : (z : ℤ) → mag z ≤ suc (mag (signed (hbits w) a)) → mag z < 2 ^ bits w
+  kept z l = let p = in_range w a A in let q = half_lt w in omega arith
 
-module _ (k : Kind) (a : ℕ) (A : a < 2 ^ width k) {s : ℤ} (S : s ≡ to_z (machine k) a) where
-  narrow : (z : ℤ) → mag z ≤ suc (mag (number k a)) → mag z < 2 ^ width k
-  narrow z l = let p = in_range k a A in let q = half_lt (below_sign k) in omega arith
+  module _ (b : ℕ) (B : b < 2 ^ bits w) {t : ℤ} (T : t ≡ to_z w b) where
+    pub less : lt_z (to_z w (of_z w s)) (to_z w (of_z w t)) ≡ lt_z (signed (hbits w) a) (signed (hbits w) b)
+    less = ap₂ lt_z (read w a A S) (read w b B T)
 
-  module _ (b : ℕ) (B : b < 2 ^ width k) {t : ℤ} (T : t ≡ to_z (machine k) b) where
-    pub less : lt_z (to_z (machine k) (of_z (machine k) s)) (to_z (machine k) (of_z (machine k) t)) ≡ lt_z (number k a) (number k b)
-    less = ap₂ lt_z (read k a A S) (read k b B T)
+    pub quotient : {d : ℤ} {r : ℕ} → d ≡ int_wrapping_div w (to_z w (of_z w s)) (to_z w (of_z w t)) → r ≡ of_z w (to_z w (of_z w d)) → r ≡ low (bits w) (quot_z (signed (hbits w) a) (signed (hbits w) b))
+    quotient D R = let q = quot_z (signed (hbits w) a) (signed (hbits w) b) in
+        let l = kept q (mag_quotient (signed (hbits w) a) (signed (hbits w) b)) in
+        let e = D ∙ ap₂ (int_wrapping_div w) (read w a A S) (read w b B T) in
+        written w q l (R ∙ ap (λ (z : ℤ). of_z w (to_z w (of_z w z))) e ∙ ap (λ (n : ℕ). of_z w (to_z w n)) (back w q l))
 
-    pub quotient : {d : ℤ} {r : ℕ} → d ≡ int_wrapping_div (machine k) (to_z (machine k) (of_z (machine k) s)) (to_z (machine k) (of_z (machine k) t))
-        → r ≡ of_z (machine k) (to_z (machine k) (of_z (machine k) d)) → r ≡ low_bits k (quot_z (number k a) (number k b))
-    quotient D R = let q = quot_z (number k a) (number k b) in
-        let l = narrow q (mag_quotient (number k a) (number k b)) in
-        let e = D ∙ ap₂ (int_wrapping_div (machine k)) (read k a A S) (read k b B T) in
-        written k q l (R ∙ ap (λ (z : ℤ). of_z (machine k) (to_z (machine k) (of_z (machine k) z))) e ∙ ap (λ (n : ℕ). of_z (machine k) (to_z (machine k) n)) (word_back k (of_z (machine k) q) (of_z_lt k q l)))
+    pub remainder : {d : ℤ} {r : ℕ} → d ≡ rem_z (to_z w (of_z w s)) (to_z w (of_z w t)) → r ≡ of_z w (to_z w (of_z w d)) → r ≡ low (bits w) (rem_z (signed (hbits w) a) (signed (hbits w) b))
+    remainder D R = let z = rem_z (signed (hbits w) a) (signed (hbits w) b) in
+        let l = kept z (omega (arith, mag_rem (signed (hbits w) a) (signed (hbits w) b))) in
+        written w z l (R ∙ ap (λ (z : ℤ). of_z w (to_z w (of_z w z))) (D ∙ ap₂ rem_z (read w a A S) (read w b B T)))
 
-    pub remainder : {d : ℤ} {r : ℕ} → d ≡ rem_z (to_z (machine k) (of_z (machine k) s)) (to_z (machine k) (of_z (machine k) t))
-        → r ≡ of_z (machine k) (to_z (machine k) (of_z (machine k) d)) → r ≡ low_bits k (rem_z (number k a) (number k b))
-    remainder D R = let z = rem_z (number k a) (number k b) in
-        written k z (narrow z (omega (arith, mag_rem (number k a) (number k b)))) (R ∙ ap (λ (z : ℤ). of_z (machine k) (to_z (machine k) (of_z (machine k) z))) (D ∙ ap₂ rem_z (read k a A S) (read k b B T)))
+  pub shift_right : (m : ℕ) {r : ℕ} → r ≡ of_z w (to_z w (of_z w (shr_z (to_z w (of_z w s)) m))) → r ≡ low (bits w) (shr_z (signed (hbits w) a) m)
+  shift_right m R = let z = shr_z (signed (hbits w) a) m in
+      written w z (kept z (omega (arith, mag_shr (signed (hbits w) a) m))) (R ∙ ap (λ (z : ℤ). of_z w (to_z w (of_z w (shr_z z m)))) (read w a A S))
 
-  pub shift_right : (m : ℕ) {r : ℕ} → r ≡ of_z (machine k) (to_z (machine k) (of_z (machine k) (shr_z (to_z (machine k) (of_z (machine k) s)) m))) → r ≡ low_bits k (shr_z (number k a) m)
-  shift_right m R = let z = shr_z (number k a) m in
-      written k z (narrow z (omega (arith, mag_shr (number k a) m))) (R ∙ ap (λ (z : ℤ). of_z (machine k) (to_z (machine k) (of_z (machine k) (shr_z z m)))) (read k a A S))
+  -- as a number of a wider type v
+  pub extended : (v : Width) → hbits w < bits v → {t : ℤ} {r : ℕ} → t ≡ to_z w (of_z w s) → r ≡ of_z v (to_z v (of_z v t)) → r ≡ low (bits v) (signed (hbits w) a)
+  extended v l T R = let p = in_range w a A in
+      let q = pow-lt {i = hbits w} {j = bits v} l in
+      written v (signed (hbits w) a) (omega arith) (R ∙ ap (λ (z : ℤ). of_z v (to_z v (of_z v z))) (T ∙ read w a A S))

@@ -2,7 +2,9 @@
 // Each promise is the formula of the instruction's row in the table.
 #![tactic(auto)]
 
+mod int;
 mod integer;
+mod long;
 mod narrow;
 mod order;
 mod words;

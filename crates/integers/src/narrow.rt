@@ -1,4 +1,6 @@
 // Ints and longs cut and extended (JVMS 2.11.4). The machine's signed types extend a number with its sign.
+#![tactic(auto, using(values::proofs::LowBits::low_signed, values::proofs::Integers::low_plus))]
+
 ghost use Rattle.std.specs.Prelude.{◌≡◌};
 ghost use Rattle.values.specs.Kinds.{int, long};
 ghost use Rattle.values.specs.Integers.{signed, to_byte, to_char, to_short};
@@ -19,17 +21,17 @@ pub fn l2i(a: u64) -> u32
 }
 
 // Eight bits with their sign, as an int.
-pub fn extended8(a: u8) -> u32
-    ensures { result ≡ bits int (signed 7 a) }
+pub fn extended8(byte: u8) -> u32
+    ensures { result ≡ bits int (signed 7 byte) }
 {
-    i32::from(a.cast_signed()).cast_unsigned()
+    i32::from(byte.cast_signed()).cast_unsigned()
 }
 
 // Sixteen bits with their sign, as an int.
-pub fn extended16(a: u16) -> u32
-    ensures { result ≡ bits int (signed 15 a) }
+pub fn extended16(short: u16) -> u32
+    ensures { result ≡ bits int (signed 15 short) }
 {
-    i32::from(a.cast_signed()).cast_unsigned()
+    i32::from(short.cast_signed()).cast_unsigned()
 }
 
 // I2B: the low 8 bits with their sign.

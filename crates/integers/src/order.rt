@@ -1,5 +1,6 @@
 // Ints, longs and words compared (JVMS 2.11.3, 2.11.7).
 #![tactic(auto, using(crate::proofs::Comparison::signed_eq, crate::proofs::Comparison::le_is), unfolding(crate::specs::Widths::number, crate::specs::Widths::low_bits, values::specs::Integers::low))]
+
 ghost use Rattle.std.specs.Prelude.{◌≡◌, not, ◌==◌};
 ghost use Rattle.values.specs.Kinds.{int, long};
 ghost use Rattle.values.specs.Integers.{order, ◌=ᶻ◌, ◌<ᶻ◌, ◌≤ᶻ◌};
