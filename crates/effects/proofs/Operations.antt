@@ -1,5 +1,5 @@
 -- The rows that ints and longs share come to an operation at a kind. Computed over the opcodes. Assumes nothing.
-use Rattle.std.proofs.Common.{◌≡◌, ℕ, ◌+◌, ◌*◌, ◌^◌, Bool, true, false, ◌||◌, eqb, List, [], ◌∷◌, map, refl, sym, ap, ◌∙◌}
+use Rattle.std.proofs.Common.{◌≡◌, ℕ, ◌+◌, ◌-◌, ◌*◌, ◌^◌, Bool, true, false, ◌||◌, eqb, List, [], ◌∷◌, map, refl, sym, ap, ◌∙◌}
 use borrow.Author.Tests.{eqb-true}
 use Rattle.values.specs.Kinds.{int, long}
 use Rattle.values.specs.Integers.{signed}
@@ -30,7 +30,7 @@ on_ints : ℕ → ℕ → ℕ → ℕ → ℕ → ℕ → Effect
 on_ints n constant a b c d = effect_of (result_of int (operation_at n) a b b)
 
 on_longs : ℕ → ℕ → ℕ → ℕ → ℕ → ℕ → Effect
-on_longs n constant a b c d = effect_of (result_of long (operation_at n) (a + b * 2 ^ 32) (c + d * 2 ^ 32) c)
+on_longs n constant a b c d = effect_of (result_of long (operation_at (n - 1)) (a + b * 2 ^ 32) (c + d * 2 ^ 32) c)
 
 int_rows : map effect_at shared_int_opcodes ≡ map on_ints shared_int_opcodes
 unfolding effect_at row_of number low_bits word_of result_of on_ints
@@ -40,11 +40,15 @@ long_rows : map effect_at long_opcodes ≡ map on_longs long_opcodes
 unfolding effect_at row_of number low_bits word_of result_of on_longs
 long_rows = refl
 
+-- the opcode before one of longs is that of ints
+pub before : (n : ℕ) → is_in long_opcodes n ≡ true → is_in shared_int_opcodes (n - 1) ≡ true
+before n h = listed (λ (m : ℕ). is_in shared_int_opcodes (m - 1)) (λ m. true) long_opcodes refl n h
+
 module _ (n : ℕ) (constant a b c d : ℕ) where
   pub int_row : is_in shared_int_opcodes n ≡ true → effect_at n constant a b c d ≡ effect_of (result_of int (operation_at n) a b b)
   unfolding on_ints
   int_row h = ap (λ f. f constant a b c d) (listed effect_at on_ints shared_int_opcodes int_rows n h)
 
-  pub long_row : is_in long_opcodes n ≡ true → effect_at n constant a b c d ≡ effect_of (result_of long (operation_at n) (a + b * 2 ^ 32) (c + d * 2 ^ 32) c)
+  pub long_row : is_in long_opcodes n ≡ true → effect_at n constant a b c d ≡ effect_of (result_of long (operation_at (n - 1)) (a + b * 2 ^ 32) (c + d * 2 ^ 32) c)
   unfolding on_longs
   long_row h = ap (λ f. f constant a b c d) (listed effect_at on_longs long_opcodes long_rows n h)

@@ -10,13 +10,9 @@ unfoldable pub shared_opcodes : List ℕ
 unfolding instructions
 shared_opcodes = map shared_of instructions
 
--- ints, longs, floats and doubles by their turn
-abbrev pub by_turn : ℕ → Numbers
-by_turn n = cond (eqb n 0) Ints (cond (eqb n 1) Longs (cond (eqb n 2) Floats Doubles))
-
--- what an arithmetic opcode works on
+-- what an arithmetic opcode works on: ints, longs, floats and doubles take turns, and from ISHL on ints and longs alone
 abbrev pub arithmetic_kind : ℕ → Numbers
-arithmetic_kind n = by_turn (cond (ltb n 120) (n % 4) (n % 2))
+arithmetic_kind n = cond (ltb n 120) (cond (eqb (n % 4) 0) Ints (cond (eqb (n % 4) 1) Longs (cond (eqb (n % 4) 2) Floats Doubles))) (cond (eqb (n % 2) 0) Ints Longs)
 
 -- IRETURN to RETURN
 abbrev pub is_return : ℕ → Bool

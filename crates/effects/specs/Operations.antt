@@ -13,7 +13,7 @@ use Rattle.effects.specs.declared.arithmetic.Operation.TheVariants.{Add, Sub, Mu
 abbrev operations : List Operation
 operations = Add ∷ Sub ∷ Mul ∷ Div ∷ Rem ∷ Neg ∷ Shl ∷ Shr ∷ Ushr ∷ And ∷ Or ∷ Xor ∷ []
 
--- the operation of an arithmetic opcode: below ISHL every fourth one is of ints, and from there every second
+-- the operation of an opcode of ints: below ISHL every fourth opcode is one, and from there every second
 abbrev pub operation_at : ℕ → Operation
 operation_at n = get_or operations (cond (ltb n 120) ((n - 96) / 4) (6 + (n - 120) / 2)) Xor
 

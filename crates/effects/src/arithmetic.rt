@@ -1,10 +1,10 @@
 // The operations that ints and longs share (JVMS 2.11.3).
 #![tactic(auto, unfolding(crate::specs::Operations::word_of, crate::specs::Operations::result_of))]
 
-ghost use Rattle.std.specs.Prelude.{◌≡◌, ◌++◌, true};
+ghost use Rattle.std.specs.Prelude.{◌≡◌, true};
 ghost use Rattle.instructions.specs.Table.{is_in};
 ghost use Rattle.effects.specs.Effects.{effect_of};
-ghost use Rattle.effects.specs.Families.{shared_int_opcodes, long_opcodes};
+ghost use Rattle.effects.specs.Families.{shared_int_opcodes};
 ghost use Rattle.effects.specs.Operations.{operation_at, result_of};
 
 use crate::outcome::{Effect, Push};
@@ -27,24 +27,24 @@ pub(crate) enum Operation {
     Xor,
 }
 
-// The operation of an opcode from IADD to LXOR on ints or longs.
+// The operation of an opcode of ints, from IADD to IXOR.
 pub(crate) fn operation_of(op: u8) -> Operation
-    requires { is_in (shared_int_opcodes ++ long_opcodes) op ≡ true }
+    requires { is_in shared_int_opcodes op ≡ true }
     ensures { result ≡ operation_at op }
 {
     match op {
-        IADD | LADD => Operation::Add,
-        ISUB | LSUB => Operation::Sub,
-        IMUL | LMUL => Operation::Mul,
-        IDIV | LDIV => Operation::Div,
-        IREM | LREM => Operation::Rem,
-        INEG | LNEG => Operation::Neg,
-        ISHL | LSHL => Operation::Shl,
-        ISHR | LSHR => Operation::Shr,
-        IUSHR | LUSHR => Operation::Ushr,
-        IAND | LAND => Operation::And,
-        IOR | LOR => Operation::Or,
-        _ => Operation::Xor, // IXOR, LXOR
+        IADD => Operation::Add,
+        ISUB => Operation::Sub,
+        IMUL => Operation::Mul,
+        IDIV => Operation::Div,
+        IREM => Operation::Rem,
+        INEG => Operation::Neg,
+        ISHL => Operation::Shl,
+        ISHR => Operation::Shr,
+        IUSHR => Operation::Ushr,
+        IAND => Operation::And,
+        IOR => Operation::Or,
+        _ => Operation::Xor, // IXOR
     }
 }
 

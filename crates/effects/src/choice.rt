@@ -46,12 +46,17 @@ pub(crate) enum Numbers {
 fn arithmetic_kind(op: u8) -> Numbers
     ensures { result ≡ arithmetic_kind op }
 {
-    let turn = if op < ISHL { op % 4 } else { op % 2 };
-    match turn {
-        0 => Numbers::Ints,
-        1 => Numbers::Longs,
-        2 => Numbers::Floats,
-        _ => Numbers::Doubles,
+    if op < ISHL {
+        match op % 4 {
+            0 => Numbers::Ints,
+            1 => Numbers::Longs,
+            2 => Numbers::Floats,
+            _ => Numbers::Doubles,
+        }
+    } else if op % 2 == 0 {
+        Numbers::Ints
+    } else {
+        Numbers::Longs
     }
 }
 
@@ -64,8 +69,9 @@ fn arithmetic_effect(op: u8, constant: u32, a: u32, b: u32, c: u32, d: u32) -> E
     match arithmetic_kind(op) {
         Numbers::Ints if op == IINC => one(a.add(constant)),
         Numbers::Ints => integer_effect(operation_of(op), a, b, b),
+        // The opcode for longs is the next one after that for ints.
         Numbers::Longs => {
-            integer_effect(operation_of(op), join_words(a, b), join_words(c, d), c)
+            integer_effect(operation_of(op - 1), join_words(a, b), join_words(c, d), c)
         }
         Numbers::Floats => float_effect(op, a, b),
         Numbers::Doubles => double_effect(op, a, b, c, d),

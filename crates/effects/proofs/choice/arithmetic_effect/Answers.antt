@@ -6,7 +6,7 @@ use Rattle.integers.specs.Widths.{number, low_bits}
 use Rattle.rules.specs.Instructions.{row_of}
 use Rattle.effects.specs.Effects.{effect_of, effect_at}
 use Rattle.effects.specs.Operations.{result_of}
-use Rattle.effects.proofs.Operations.{int_row, long_row}
+use Rattle.effects.proofs.Operations.{before, int_row, long_row}
 use Rattle.effects.proofs.choice.arithmetic_effect.Goals as goal
 
 pub returns-in-Ints : goal.returns-in-Ints
@@ -16,6 +16,9 @@ returns-in-Ints c = rw (c.if-op-eq-IINC.true, ← c.add.ensures) c.one.ensures
 pub returns-in-Ints-2 : goal.returns-in-Ints-2
 returns-in-Ints-2 c = let x = c.args in
     c.integer_effect.ensures ∙ ap (λ f. effect_of (result_of int f x.a x.b x.b)) c.operation_of.ensures ∙ sym (int_row x.op x.constant x.a x.b x.c x.d (grind (arith, common_steps)))
+
+pub operation_of-requires-in-Longs : goal.operation_of-requires-in-Longs
+operation_of-requires-in-Longs c = before c.args.op (grind (arith, common_steps))
 
 pub returns-in-Longs : goal.returns-in-Longs
 returns-in-Longs c = let x = c.args in
