@@ -66,8 +66,10 @@ fn arithmetic_effect(op: u8, constant: u32, a: u32, b: u32, c: u32, d: u32) -> E
     requires le_op { (96 ≤ op) × (op < 133) }
     ensures { result ≡ effect_at op constant a b c d }
 {
+    if op == IINC {
+        return one(a.add(constant));
+    }
     match arithmetic_kind(op) {
-        Numbers::Ints if op == IINC => one(a.add(constant)),
         Numbers::Ints => integer_effect(operation_of(op), a, b, b),
         // The opcode for longs is the next one after that for ints.
         Numbers::Longs => {

@@ -9,12 +9,12 @@ use Rattle.effects.specs.Operations.{result_of}
 use Rattle.effects.proofs.Operations.{before, int_row, long_row}
 use Rattle.effects.proofs.choice.arithmetic_effect.Goals as goal
 
-pub returns-in-Ints : goal.returns-in-Ints
+pub returns-then-op-eq-IINC : goal.returns-then-op-eq-IINC
 unfolding effect_at row_of number low_bits
-returns-in-Ints c = rw (c.if-op-eq-IINC.true, ← c.add.ensures) c.one.ensures
+returns-then-op-eq-IINC c = rw (c.if-op-eq-IINC.true, ← c.add.ensures) c.one.ensures
 
-pub returns-in-Ints-2 : goal.returns-in-Ints-2
-returns-in-Ints-2 c = let x = c.args in
+pub returns-in-Ints : goal.returns-in-Ints
+returns-in-Ints c = let x = c.args in
     c.integer_effect.ensures ∙ ap (λ f. effect_of (result_of int f x.a x.b x.b)) c.operation_of.ensures ∙ sym (int_row x.op x.constant x.a x.b x.c x.d (grind (arith, common_steps)))
 
 pub operation_of-requires-in-Longs : goal.operation_of-requires-in-Longs
