@@ -2,7 +2,6 @@
 use Rattle.std.proofs.Common.{◌≡◌, ℕ, ◌+◌, ◌-◌, ◌*◌, ◌^◌, Bool, true, false, ◌||◌, eqb, List, [], ◌∷◌, map, refl, sym, ap, ◌∙◌}
 use borrow.Author.Tests.{eqb-true}
 use Rattle.values.specs.Kinds.{int, long}
-use Rattle.values.specs.Integers.{signed}
 use Rattle.integers.specs.Widths.{number, low_bits}
 use Rattle.rules.specs.Instructions.{row_of}
 use Rattle.instructions.specs.Table.{is_in}

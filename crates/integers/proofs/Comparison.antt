@@ -1,8 +1,6 @@
 -- Words of a kind compared as numbers: equal words are equal numbers, and at most is not above. Assumes nothing.
-use Rattle.std.proofs.Common.{◌≡◌, ℕ, suc, ◌+◌, ◌-◌, ◌^◌, ◌<◌, ◌≤◌, Bool, true, false, cond, not, T, eqb, ltb, leb, ℤ, pos, negsuc, sym, refl, subst, arith, eqb→eq, ltb-false, ltb-true, le-ltb, ne_eqb, le-leb}
-use native.Mathlib.Nat.{pow-succ'}
+use Rattle.std.proofs.Common.{◌≡◌, ℕ, suc, ◌+◌, ◌-◌, ◌^◌, ◌<◌, ◌≤◌, Bool, true, false, cond, not, T, eqb, ltb, leb, ℤ, pos, negsuc, sym, refl, subst, arith, eqb→eq, ltb-false, ltb-true, ne_eqb, le-leb}
 use lib.Dec.{eqb_refl}
-use lib.Signed.{lt_z, le_z}
 use borrow.Author.Tests.{lt-leb}
 use Rattle.values.specs.Integers.{signed, ◌=ᶻ◌, ◌≤ᶻ◌, ◌<ᶻ◌}
 

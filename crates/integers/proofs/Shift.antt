@@ -1,6 +1,6 @@
 -- Shifts of a word of a kind, by a count that is an int: only its low bits count. Assumes nothing.
 use Rattle.std.proofs.Common.{◌≡◌, ℕ, ◌*◌, ◌%◌, ◌^◌, ◌<◌, ◌≤◌, pos, ◌*ℤ◌, refl, ap, ◌∙◌, mod-lt, arith, lit≤}
-use lib.Pow.{pow-lt, pow_pos}
+use lib.Pow.{pow-lt}
 use Rattle.values.specs.Kinds.{Kind, int, long, float, double, reference, any}
 use Rattle.values.specs.Integers.{low}
 use Rattle.values.proofs.Integers.{low_plus}

@@ -1,7 +1,7 @@
 -- `arithmetic_effect` meets its contract. Assumes nothing.
 use Rattle.std.proofs.Common.{sym, ap, ◌∙◌, arith}
 use Rattle.std.proofs.lemmas.Grind.{common_steps}
-use Rattle.values.specs.Kinds.{int, long}
+use Rattle.values.specs.Kinds.{int}
 use Rattle.integers.specs.Widths.{number, low_bits}
 use Rattle.rules.specs.Instructions.{row_of}
 use Rattle.effects.specs.Effects.{effect_of, effect_at}
