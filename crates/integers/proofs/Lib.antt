@@ -3,3 +3,4 @@ pub mod Shift
 pub mod Signed
 pub mod Bitwise
 pub mod Comparison
+pub mod Machine

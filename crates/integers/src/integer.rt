@@ -5,7 +5,7 @@ ghost use Rattle.values.specs.Kinds.{Kind, int};
 ghost use Rattle.values.specs.Integers.{low, bitwise, and, or, xor, ◌<ᶻ◌};
 ghost use Rattle.integers.specs.Widths.{width, count_bits, number, low_bits};
 
-// A two's complement number as a word: an int is a u32, a long a u64.
+// A two's complement number as a word: an int is a u32, a long a u64. The impls are written out, since no macro may write one here.
 pub trait Integer: Copy {
     // `int` or `long`.
     ghost kind: { Kind };

@@ -1,5 +1,5 @@
 // Long arithmetic (JVMS 2.11.3): the machine's own operations, the signed ones at its signed type.
-#![tactic(auto, using(crate::proofs::Sums::sum, crate::proofs::Sums::difference, crate::proofs::Sums::product, crate::proofs::Shift::shift_left, crate::proofs::Bitwise::and_is, crate::proofs::Bitwise::or_is, crate::proofs::Bitwise::xor_is))]
+#![tactic(auto, using(crate::proofs::Machine::machine_laws))]
 
 ghost use Rattle.values.specs.Kinds.{long};
 
