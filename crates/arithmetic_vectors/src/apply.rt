@@ -1,6 +1,8 @@
 // Whether a function takes its operands to the result of a vector. A function is known by its opcode in JVMS, IINC after WIDE by
 // that of WIDE. Each opcode is in one of the families below, and the other families answer false.
 
+use integers::Integer;
+
 // The largest word.
 const WORD: u64 = 0xFFFF_FFFF;
 
@@ -17,17 +19,17 @@ fn flag(x: bool) -> u64 {
 // From two ints to an int, or from an int and a count.
 fn int_holds(op: u64, a: u32, b: u32, res: u64) -> bool {
     match op {
-        0x60 => wide(integers::iadd(a, b)) == res,
-        0x64 => wide(integers::isub(a, b)) == res,
-        0x68 => wide(integers::imul(a, b)) == res,
-        0x6C => b != 0 && wide(integers::idiv(a, b)) == res,
-        0x70 => b != 0 && wide(integers::irem(a, b)) == res,
-        0x78 => wide(integers::ishl(a, b)) == res,
-        0x7A => wide(integers::ishr(a, b)) == res,
-        0x7C => wide(integers::iushr(a, b)) == res,
-        0x7E => wide(integers::iand(a, b)) == res,
-        0x80 => wide(integers::ior(a, b)) == res,
-        0x82 => wide(integers::ixor(a, b)) == res,
+        0x60 => wide(a.add(b)) == res,
+        0x64 => wide(a.sub(b)) == res,
+        0x68 => wide(a.mul(b)) == res,
+        0x6C => b != 0 && wide(a.div(b)) == res,
+        0x70 => b != 0 && wide(a.rem(b)) == res,
+        0x78 => wide(a.shl(b)) == res,
+        0x7A => wide(a.shr(b)) == res,
+        0x7C => wide(a.ushr(b)) == res,
+        0x7E => wide(a.and(b)) == res,
+        0x80 => wide(a.or(b)) == res,
+        0x82 => wide(a.xor(b)) == res,
         _ => false,
     }
 }
@@ -35,10 +37,8 @@ fn int_holds(op: u64, a: u32, b: u32, res: u64) -> bool {
 // IINC, whose constant has 8 bits, or 16 after WIDE.
 fn increment_holds(op: u64, a: u32, constant: u32, res: u64) -> bool {
     match op {
-        0x84 => constant <= 0xFF
-            && wide(integers::iinc(a, integers::extended8(constant as u8))) == res,
-        0xC4 => constant <= 0xFFFF
-            && wide(integers::iinc(a, integers::extended16(constant as u16))) == res,
+        0x84 => constant <= 0xFF && wide(a.add(integers::extended8(constant as u8))) == res,
+        0xC4 => constant <= 0xFFFF && wide(a.add(integers::extended16(constant as u16))) == res,
         _ => false,
     }
 }
@@ -73,7 +73,7 @@ fn float_holds(op: u64, a: u32, b: u32, res: u64) -> bool {
 // From one int or one float.
 fn one_word_holds(op: u64, a: u32, res: u64) -> bool {
     match op {
-        0x74 => wide(integers::ineg(a)) == res,
+        0x74 => wide(a.neg()) == res,
         0x76 => wide(floats::fneg(a)) == res,
         0x85 => integers::i2l(a) == res,
         0x86 => wide(conversions::i2f(a)) == res,
@@ -91,14 +91,14 @@ fn one_word_holds(op: u64, a: u32, res: u64) -> bool {
 // From two longs.
 fn long_holds(op: u64, a: u64, b: u64, res: u64) -> bool {
     match op {
-        0x61 => integers::ladd(a, b) == res,
-        0x65 => integers::lsub(a, b) == res,
-        0x69 => integers::lmul(a, b) == res,
-        0x6D => b != 0 && integers::ldiv(a, b) == res,
-        0x71 => b != 0 && integers::lrem(a, b) == res,
-        0x7F => integers::land(a, b) == res,
-        0x81 => integers::lor(a, b) == res,
-        0x83 => integers::lxor(a, b) == res,
+        0x61 => a.add(b) == res,
+        0x65 => a.sub(b) == res,
+        0x69 => a.mul(b) == res,
+        0x6D => b != 0 && a.div(b) == res,
+        0x71 => b != 0 && a.rem(b) == res,
+        0x7F => a.and(b) == res,
+        0x81 => a.or(b) == res,
+        0x83 => a.xor(b) == res,
         0x94 => wide(integers::lcmp(a, b)) == res,
         _ => false,
     }
@@ -107,9 +107,9 @@ fn long_holds(op: u64, a: u64, b: u64, res: u64) -> bool {
 // From a long and a count.
 fn shift_holds(op: u64, a: u64, count: u32, res: u64) -> bool {
     match op {
-        0x79 => integers::lshl(a, count) == res,
-        0x7B => integers::lshr(a, count) == res,
-        0x7D => integers::lushr(a, count) == res,
+        0x79 => a.shl(count) == res,
+        0x7B => a.shr(count) == res,
+        0x7D => a.ushr(count) == res,
         _ => false,
     }
 }
@@ -131,7 +131,7 @@ fn double_holds(op: u64, a: u64, b: u64, res: u64) -> bool {
 // From one long or one double.
 fn one_long_holds(op: u64, a: u64, res: u64) -> bool {
     match op {
-        0x75 => integers::lneg(a) == res,
+        0x75 => a.neg() == res,
         0x77 => floats::dneg(a) == res,
         0x88 => wide(integers::l2i(a)) == res,
         0x89 => wide(conversions::l2f(a)) == res,

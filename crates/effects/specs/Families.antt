@@ -1,16 +1,18 @@
 -- The families of the shared opcodes, each one function's, its last opcode first. Assumes nothing.
-use Rattle.std.specs.Prelude.{ℕ, ◌%◌, Bool, false, cond, List, [], ◌∷◌, map, ltb, leb}
+use Rattle.std.specs.Prelude.{ℕ, ◌%◌, Bool, false, cond, List, [], ◌∷◌, map, drop, eqb, ltb, leb}
 use Rattle.rules.specs.Instructions.{instructions}
 use Rattle.instructions.specs.Table.{shared_of}
+use Rattle.effects.specs.declared.choice.Numbers.{Numbers}
+use Rattle.effects.specs.declared.choice.Numbers.TheVariants.{Ints, Longs, Floats, Doubles}
 
 -- the opcodes that instructions share, of the whole table
 unfoldable pub shared_opcodes : List ℕ
 unfolding instructions
 shared_opcodes = map shared_of instructions
 
--- 0 to 3: an arithmetic opcode of ints, longs, floats, doubles
-abbrev pub arithmetic_kind : ℕ → ℕ
-arithmetic_kind n = cond (ltb n 120) (n % 4) (n % 2)
+-- what an arithmetic opcode works on: ints, longs, floats and doubles take turns, and from ISHL on ints and longs alone
+abbrev pub arithmetic_kind : ℕ → Numbers
+arithmetic_kind n = cond (ltb n 120) (cond (eqb (n % 4) 0) Ints (cond (eqb (n % 4) 1) Longs (cond (eqb (n % 4) 2) Floats Doubles))) (cond (eqb (n % 2) 0) Ints Longs)
 
 -- IRETURN to RETURN
 abbrev pub is_return : ℕ → Bool
@@ -29,6 +31,10 @@ stack_opcodes = 95 ∷ 94 ∷ 93 ∷ 92 ∷ 91 ∷ 90 ∷ 89 ∷ 88 ∷ 87 ∷ [
 
 abbrev pub int_opcodes : List ℕ
 int_opcodes = 132 ∷ 130 ∷ 128 ∷ 126 ∷ 124 ∷ 122 ∷ 120 ∷ 116 ∷ 112 ∷ 108 ∷ 104 ∷ 100 ∷ 96 ∷ []
+
+-- those that longs have too
+abbrev pub shared_int_opcodes : List ℕ
+shared_int_opcodes = drop 1 int_opcodes
 
 abbrev pub long_opcodes : List ℕ
 long_opcodes = 131 ∷ 129 ∷ 127 ∷ 125 ∷ 123 ∷ 121 ∷ 117 ∷ 113 ∷ 109 ∷ 105 ∷ 101 ∷ 97 ∷ []

@@ -4,19 +4,19 @@ ghost use Rattle.instructions.specs.Table.{is_in};
 ghost use Rattle.effects.specs.Effects.{effect_at};
 ghost use Rattle.effects.specs.Families.{shared_opcodes, arithmetic_kind, is_return};
 
+use crate::arithmetic::{integer_effect, operation_of};
 use crate::branches::branch_effect;
 use crate::comparisons::comparison_effect;
 use crate::constants::constant_effect;
 use crate::conversion::conversion_effect;
 use crate::double::double_effect;
 use crate::float::float_effect;
-use crate::int::int_effect;
-use crate::long::long_effect;
 use crate::moves::move_effect;
-use crate::outcome::{Effect, nothing};
+use crate::outcome::{Effect, nothing, one};
 use crate::returns::return_effect;
 use crate::stack::stack_effect;
 use instructions::opcodes::*;
+use integers::{Integer, join_words};
 
 // Constants, moves and the stack: the opcodes before IADD.
 fn plain_effect(op: u8, constant: u32, a: u32, b: u32, c: u32, d: u32) -> Effect
@@ -33,18 +33,31 @@ fn plain_effect(op: u8, constant: u32, a: u32, b: u32, c: u32, d: u32) -> Effect
     stack_effect(op, a, b, c, d)
 }
 
-// What an arithmetic opcode works on; the doubles come last.
-const INTS: u8 = 0;
-
-const LONGS: u8 = 1;
-
-const FLOATS: u8 = 2;
+// What an arithmetic opcode works on.
+#[derive(Clone, Copy)]
+pub(crate) enum Numbers {
+    Ints,
+    Longs,
+    Floats,
+    Doubles,
+}
 
 // Ints, longs, floats and doubles take turns, and from ISHL on ints and longs alone.
-fn arithmetic_kind(op: u8) -> u8
+fn arithmetic_kind(op: u8) -> Numbers
     ensures { result ≡ arithmetic_kind op }
 {
-    if op < ISHL { op % 4 } else { op % 2 }
+    if op < ISHL {
+        match op % 4 {
+            0 => Numbers::Ints,
+            1 => Numbers::Longs,
+            2 => Numbers::Floats,
+            _ => Numbers::Doubles,
+        }
+    } else if op % 2 == 0 {
+        Numbers::Ints
+    } else {
+        Numbers::Longs
+    }
 }
 
 // Arithmetic: the opcodes from IADD to IINC.
@@ -53,17 +66,18 @@ fn arithmetic_effect(op: u8, constant: u32, a: u32, b: u32, c: u32, d: u32) -> E
     requires le_op { (96 ≤ op) × (op < 133) }
     ensures { result ≡ effect_at op constant a b c d }
 {
-    let kind = arithmetic_kind(op);
-    if kind == INTS {
-        return int_effect(op, constant, a, b);
+    if op == IINC {
+        return one(a.add(constant));
     }
-    if kind == LONGS {
-        return long_effect(op, a, b, c, d);
+    match arithmetic_kind(op) {
+        Numbers::Ints => integer_effect(operation_of(op), a, b, b),
+        // The opcode for longs is the next one after that for ints.
+        Numbers::Longs => {
+            integer_effect(operation_of(op - 1), join_words(a, b), join_words(c, d), c)
+        }
+        Numbers::Floats => float_effect(op, a, b),
+        Numbers::Doubles => double_effect(op, a, b, c, d),
     }
-    if kind == FLOATS {
-        return float_effect(op, a, b);
-    }
-    double_effect(op, a, b, c, d)
 }
 
 // Whether an opcode from IFEQ on returns.

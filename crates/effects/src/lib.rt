@@ -1,16 +1,14 @@
 // What an instruction does with its words, by its shared opcode: each promise is the result of the instruction's row in the table.
 #![tactic(auto)]
 
+mod arithmetic;
 mod branches;
 mod choice;
 mod comparisons;
 mod constants;
 mod conversion;
-mod divisions;
 mod double;
 mod float;
-mod int;
-mod long;
 mod moves;
 mod outcome;
 mod returns;

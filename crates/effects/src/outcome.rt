@@ -5,7 +5,7 @@ ghost use Rattle.values.specs.Words.{words_of};
 ghost use Rattle.rules.specs.Forms.{pushes};
 ghost use Rattle.effects.specs.Effects.{effect_of};
 
-use integers::{high_word, low_word};
+use integers::{Integer, high_word, low_word};
 use values::Value;
 
 // Six words to push or to store, lowest first, of which those past the number that an instruction gives are 0; an ArithmeticException, whether a branch is taken, or a
@@ -53,4 +53,22 @@ pub(crate) fn split(v: u64) -> Effect
     let low = low_word(v);
     let high = high_word(v);
     two(low, high)
+}
+
+// A number as the words that it takes on the operand stack.
+pub(crate) trait Push: Integer {
+    fn push(self) -> Effect
+        ensures { result ≡ effect_of (pushes (words_of Self.kind (Self.word self))) };
+}
+
+impl Push for u32 {
+    fn push(self) -> Effect {
+        one(self)
+    }
+}
+
+impl Push for u64 {
+    fn push(self) -> Effect {
+        split(self)
+    }
 }

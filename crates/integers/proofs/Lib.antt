@@ -1,7 +1,6 @@
 pub mod Sums
-pub mod Product
-pub mod Division
 pub mod Shift
-pub mod Extend
+pub mod Signed
 pub mod Bitwise
 pub mod Comparison
+pub mod Machine

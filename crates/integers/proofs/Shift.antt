@@ -1,20 +1,39 @@
--- Shifts of words of h bits and a sign, by a count that is an int. Assumes nothing.
-use Rattle.std.proofs.Common.{◌≡◌, ℕ, suc, ◌-◌, ◌*◌, ◌/◌, ◌%◌, ◌^◌, ◌<◌, ◌≤◌, ℤ, pos, negsuc, ◌*ℤ◌, sym, ap, ◌∙◌, lt_of_le_of_lt, div-le_self, arith}
+-- Shifts of a word of a kind, by a count that is an int: only its low bits count. Assumes nothing.
+use Rattle.std.proofs.Common.{◌≡◌, ℕ, ◌*◌, ◌%◌, ◌^◌, ◌<◌, ◌≤◌, pos, ◌*ℤ◌, refl, ap, ◌∙◌, mod-lt, arith, lit≤}
 use lib.Pow.{pow-lt}
-use lib.Signed.{shr_z}
-use Rattle.values.specs.Integers.{signed, low}
-use Rattle.values.proofs.Integers.{signed_plus, signed_minus, low_plus, low_minus}
+use Rattle.values.specs.Kinds.{Kind, int, long, float, double, reference, any}
+use Rattle.values.specs.Integers.{low}
+use Rattle.values.proofs.Integers.{low_plus}
+use Rattle.values.proofs.LowBits.{low_signed}
+use Rattle.integers.specs.Widths.{width, count_bits, number, low_bits}
 use Rattle.integers.proofs.Sums.{multiplied}
 
-module _ (h a : ℕ) (A : a < 2 ^ suc h) where
-  pub shift_left : (k : ℕ) → k < suc h → (a * 2 ^ k) % 2 ^ suc h ≡ low (suc h) (signed h a *ℤ pos (2 ^ k))
-  shift_left k l = ap (λ (n : ℕ). (a * n) % 2 ^ suc h) (sym (low_plus (suc h) (2 ^ k) (pow-lt l))) ∙ multiplied h a A (pos (2 ^ k))
+-- as many counts as bits
+counts : (k : Kind) → 2 ^ count_bits k ≡ width k
+counts int = refl
+counts long = refl
+counts float = refl
+counts double = refl
+counts reference = refl
+counts any = refl
 
-  pub shift_right_plus : (q : ℕ) → a < 2 ^ h → a / q ≡ low (suc h) (shr_z (signed h a) q)
-  shift_right_plus q l = sym (ap (λ (z : ℤ). low (suc h) (shr_z z q)) (signed_plus h a l) ∙ low_plus (suc h) (a / q) (lt_of_le_of_lt (div-le_self a q) A))
+few : (k : Kind) → count_bits k ≤ 32
+few int = lit≤ tt
+few long = lit≤ tt
+few float = lit≤ tt
+few double = lit≤ tt
+few reference = lit≤ tt
+few any = lit≤ tt
 
-  -- a negative word by its complement n
-  pub shift_right_minus : (q n r : ℕ) → 2 ^ h ≤ a → n ≡ 2 ^ suc h - suc a → r ≡ 2 ^ suc h - suc (n / q) → r ≡ low (suc h) (shr_z (signed h a) q)
-  shift_right_minus q n r l e p =
-      p ∙ sym (ap (λ (z : ℤ). low (suc h) (shr_z z q)) (signed_minus h a l) ∙ ap (λ (m : ℕ). low (suc h) (negsuc (m / q))) (sym e)
-      ∙ low_minus (suc h) (n / q) (lt_of_le_of_lt (div-le_self n q) (omega (arith, e))))
+module _ (k : Kind) (s : ℕ) (S : s < 2 ^ 32) where
+  pub count_is : low (count_bits k) (number int s) ≡ s % width k
+  unfolding number
+  count_is = low_signed (count_bits k) 31 s (few k) S ∙ ap (λ (n : ℕ). s % n) (counts k)
+
+  count_lt : s % width k < width k
+  count_lt = mod-lt s (omega arith)
+
+  pub shift_left : (a : ℕ) → a < 2 ^ width k → low_bits k (number k a *ℤ pos (2 ^ low (count_bits k) (number int s))) ≡ (a * 2 ^ (s % width k)) % 2 ^ width k
+  unfolding low_bits
+  shift_left a A = ap (λ (n : ℕ). low_bits k (number k a *ℤ pos (2 ^ n))) count_is ∙ multiplied k a A (pos (2 ^ (s % width k)))
+      ∙ ap (λ (n : ℕ). (a * n) % 2 ^ width k) (low_plus (width k) (2 ^ (s % width k)) (pow-lt count_lt))

@@ -1,26 +1,33 @@
--- Sums, differences, negatives and products of words of h bits and a sign, modulo 2 ^ (h + 1). Assumes nothing.
-use Rattle.std.proofs.Common.{◌≡◌, ℕ, suc, ◌+◌, ◌-◌, ◌*◌, ◌%◌, ◌^◌, ◌<◌, ℤ, ◌+ℤ◌, ◌-ℤ◌, ◌*ℤ◌, neg_ℤ, sym, ap, ◌∙◌, ap₂}
-use Rattle.values.specs.Integers.{signed, low}
+-- Sums, differences, products and negatives of two words of a kind, as the machine has them. Assumes nothing.
+use Rattle.std.proofs.Common.{◌≡◌, ℕ, ◌+◌, ◌-◌, ◌*◌, ◌%◌, ◌^◌, ◌<◌, ℤ, ◌+ℤ◌, ◌-ℤ◌, ◌*ℤ◌, neg_ℤ, ap, ◌∙◌, ap₂}
+use Rattle.values.specs.Kinds.{Kind}
 use Rattle.values.proofs.LowBits.{low_word, low_sum, low_neg, low_difference, low_product}
+use Rattle.integers.specs.Widths.{below_sign, width, number, low_bits}
 
-module _ (h a : ℕ) (A : a < 2 ^ suc h) where
+module _ (k : Kind) (a : ℕ) (A : a < 2 ^ width k) where
+  -- a word is the low bits of its number
+  pub same_word : low_bits k (number k a) ≡ a
+  unfolding number low_bits
+  same_word = low_word (below_sign k) a A
+
   -- with any number
-  pub added : (y : ℤ) → (a + low (suc h) y) % 2 ^ suc h ≡ low (suc h) (signed h a +ℤ y)
-  added y = sym (low_sum (suc h) (signed h a) y ∙ ap (λ (n : ℕ). (n + low (suc h) y) % 2 ^ suc h) (low_word h a A))
+  pub multiplied : (y : ℤ) → low_bits k (number k a *ℤ y) ≡ (a * low_bits k y) % 2 ^ width k
+  unfolding low_bits
+  multiplied y = low_product (width k) (number k a) y ∙ ap (λ (n : ℕ). (n * low_bits k y) % 2 ^ width k) same_word
 
-  pub multiplied : (y : ℤ) → (a * low (suc h) y) % 2 ^ suc h ≡ low (suc h) (signed h a *ℤ y)
-  multiplied y = sym (low_product (suc h) (signed h a) y ∙ ap (λ (n : ℕ). (n * low (suc h) y) % 2 ^ suc h) (low_word h a A))
+  pub negative : low_bits k (neg_ℤ (number k a)) ≡ (2 ^ width k - a) % 2 ^ width k
+  unfolding low_bits
+  negative = low_neg (width k) (number k a) ∙ ap (λ (n : ℕ). (2 ^ width k - n) % 2 ^ width k) same_word
 
-  pub negative : (2 ^ suc h - a) % 2 ^ suc h ≡ low (suc h) (neg_ℤ (signed h a))
-  negative = sym (low_neg (suc h) (signed h a) ∙ ap (λ (n : ℕ). (2 ^ suc h - n) % 2 ^ suc h) (low_word h a A))
+-- with another word
+module _ (k : Kind) (a b : ℕ) (A : a < 2 ^ width k) (B : b < 2 ^ width k) where
+  pub sum : low_bits k (number k a +ℤ number k b) ≡ (a + b) % 2 ^ width k
+  unfolding low_bits
+  sum = low_sum (width k) (number k a) (number k b) ∙ ap₂ (λ (m n : ℕ). (m + n) % 2 ^ width k) (same_word k a A) (same_word k b B)
 
-  -- with another word
-  module _ (b : ℕ) (B : b < 2 ^ suc h) where
-    pub sum : (a + b) % 2 ^ suc h ≡ low (suc h) (signed h a +ℤ signed h b)
-    sum = ap (λ (n : ℕ). (a + n) % 2 ^ suc h) (sym (low_word h b B)) ∙ added (signed h b)
+  pub difference : low_bits k (number k a -ℤ number k b) ≡ (a + (2 ^ width k - b)) % 2 ^ width k
+  unfolding low_bits
+  difference = low_difference (width k) (number k a) (number k b) ∙ ap₂ (λ (m n : ℕ). (m + (2 ^ width k - n)) % 2 ^ width k) (same_word k a A) (same_word k b B)
 
-    pub product : (a * b) % 2 ^ suc h ≡ low (suc h) (signed h a *ℤ signed h b)
-    product = ap (λ (n : ℕ). (a * n) % 2 ^ suc h) (sym (low_word h b B)) ∙ multiplied (signed h b)
-
-    pub difference : (a + (2 ^ suc h - b)) % 2 ^ suc h ≡ low (suc h) (signed h a -ℤ signed h b)
-    difference = sym (low_difference (suc h) (signed h a) (signed h b) ∙ ap₂ (λ (m n : ℕ). (m + (2 ^ suc h - n)) % 2 ^ suc h) (low_word h a A) (low_word h b B))
+  pub product : low_bits k (number k a *ℤ number k b) ≡ (a * b) % 2 ^ width k
+  product = multiplied k a A (number k b) ∙ ap (λ (n : ℕ). (a * n) % 2 ^ width k) (same_word k b B)

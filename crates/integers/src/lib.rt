@@ -3,13 +3,13 @@
 #![tactic(auto)]
 
 mod int;
+mod integer;
 mod long;
 mod narrow;
 mod order;
 mod words;
 
-pub use int::{iadd, iand, idiv, iinc, imul, ineg, ior, irem, ishl, ishr, isub, iushr, ixor};
-pub use long::{ladd, land, ldiv, lmul, lneg, lor, lrem, lshl, lshr, lsub, lushr, lxor};
+pub use integer::Integer;
 pub use narrow::{extended8, extended16, i2b, i2c, i2l, i2s, l2i};
 pub use order::{acmpeq, acmpne, icmpeq, icmpge, icmpgt, icmple, icmplt, icmpne, lcmp};
 pub use words::{high_word, join_words, low_word};

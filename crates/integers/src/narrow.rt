@@ -1,4 +1,7 @@
-// Ints and longs cut and extended (JVMS 2.11.4).
+// Ints and longs cut and extended (JVMS 2.11.4). The machine's signed types extend a number with its sign.
+// A byte and a short have functions of their own: each is a line, which a trait with two impls would not make plainer.
+#![tactic(auto, using(values::proofs::LowBits::low_signed, values::proofs::Integers::low_plus))]
+
 ghost use Rattle.std.specs.Prelude.{◌≡◌};
 ghost use Rattle.values.specs.Kinds.{int, long};
 ghost use Rattle.values.specs.Integers.{signed, to_byte, to_char, to_short};
@@ -8,11 +11,7 @@ ghost use Rattle.values.specs.Words.{bits, meaning};
 pub fn i2l(a: u32) -> u64
     ensures { result ≡ bits long (meaning int a) }
 {
-    if a < 0x8000_0000 {
-        a as u64
-    } else {
-        a as u64 + 0xffff_ffff_0000_0000
-    }
+    i64::from(a.cast_signed()).cast_unsigned()
 }
 
 // L2I: the low word of a long.
@@ -23,25 +22,17 @@ pub fn l2i(a: u64) -> u32
 }
 
 // Eight bits with their sign, as an int.
-pub fn extended8(a: u8) -> u32
-    ensures { result ≡ bits int (signed 7 a) }
+pub fn extended8(byte: u8) -> u32
+    ensures { result ≡ bits int (signed 7 byte) }
 {
-    if a < 0x80 {
-        a as u32
-    } else {
-        a as u32 + 0xffff_ff00
-    }
+    i32::from(byte.cast_signed()).cast_unsigned()
 }
 
 // Sixteen bits with their sign, as an int.
-pub fn extended16(a: u16) -> u32
-    ensures { result ≡ bits int (signed 15 a) }
+pub fn extended16(short: u16) -> u32
+    ensures { result ≡ bits int (signed 15 short) }
 {
-    if a < 0x8000 {
-        a as u32
-    } else {
-        a as u32 + 0xffff_0000
-    }
+    i32::from(short.cast_signed()).cast_unsigned()
 }
 
 // I2B: the low 8 bits with their sign.

@@ -1,23 +1,20 @@
-// Ints, longs and words compared (JVMS 2.11.3, 2.11.7). With its top bit turned over, a word has the order of the number that it stands for.
-ghost use Rattle.std.specs.Prelude.{◌≡◌, ◌^◌, not, ◌==◌, bit_xor, nat_lt};
+// Ints, longs and words compared (JVMS 2.11.3, 2.11.7).
+#![tactic(auto, using(crate::proofs::Comparison::signed_eq, crate::proofs::Comparison::le_is), unfolding(crate::specs::Widths::number, crate::specs::Widths::low_bits, values::specs::Integers::low))]
+
+ghost use Rattle.std.specs.Prelude.{◌≡◌, not, ◌==◌};
 ghost use Rattle.values.specs.Kinds.{int, long};
 ghost use Rattle.values.specs.Integers.{order, ◌=ᶻ◌, ◌<ᶻ◌, ◌≤ᶻ◌};
 ghost use Rattle.values.specs.Words.{bits, meaning};
 
-// The order of two longs, as that of the words with their top bits turned over.
-fn less(a: u64, b: u64) -> bool
-    ensures { result ≡ nat_lt (bit_xor a (2 ^ 63)) (bit_xor b (2 ^ 63)) }
-{
-    (a ^ 0x8000_0000_0000_0000) < (b ^ 0x8000_0000_0000_0000)
-}
+use crate::integer::Integer;
 
 // LCMP: -1, 0 or 1 as a is less than b, equal or greater.
 pub fn lcmp(a: u64, b: u64) -> u32
     ensures { result ≡ bits int (order (meaning long a) (meaning long b)) }
 {
-    if less(a, b) {
+    if a.less(b) {
         0xffff_ffff
-    } else if less(b, a) {
+    } else if b.less(a) {
         1
     } else {
         0
@@ -42,28 +39,28 @@ pub fn icmpne(a: u32, b: u32) -> bool
 pub fn icmplt(a: u32, b: u32) -> bool
     ensures { result ≡ (meaning int a <ᶻ meaning int b) }
 {
-    (a ^ 0x8000_0000) < (b ^ 0x8000_0000)
+    a.less(b)
 }
 
 // IF_ICMPGE, IFGE: a ≥ b.
 pub fn icmpge(a: u32, b: u32) -> bool
     ensures { result ≡ (meaning int b ≤ᶻ meaning int a) }
 {
-    (b ^ 0x8000_0000) <= (a ^ 0x8000_0000)
+    !a.less(b)
 }
 
 // IF_ICMPGT, IFGT: a > b.
 pub fn icmpgt(a: u32, b: u32) -> bool
     ensures { result ≡ (meaning int b <ᶻ meaning int a) }
 {
-    (b ^ 0x8000_0000) < (a ^ 0x8000_0000)
+    b.less(a)
 }
 
 // IF_ICMPLE, IFLE: a ≤ b.
 pub fn icmple(a: u32, b: u32) -> bool
     ensures { result ≡ (meaning int a ≤ᶻ meaning int b) }
 {
-    (a ^ 0x8000_0000) <= (b ^ 0x8000_0000)
+    !b.less(a)
 }
 
 // IF_ACMPEQ, and IFNULL with 0 for b: the same word.

@@ -7,7 +7,7 @@ ghost use Rattle.values.specs.Words.{value_at, words_of};
 pub fn join_words(low: u32, high: u32) -> u64
     ensures { result ≡ value_at long (low ∷ high ∷ []) }
 {
-    low as u64 + high as u64 * 0x1_0000_0000
+    u64::from(low) + (u64::from(high) << 32)
 }
 
 // The low word of these bits.
@@ -21,5 +21,5 @@ pub fn low_word(v: u64) -> u32
 pub fn high_word(v: u64) -> u32
     ensures { result ≡ slice_index (words_of long v) 1 }
 {
-    (v / 0x1_0000_0000) as u32
+    (v >> 32) as u32
 }

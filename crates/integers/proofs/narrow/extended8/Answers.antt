@@ -1,10 +1,8 @@
 -- `extended8` meets its contract. Assumes nothing.
-use Rattle.std.proofs.Common.{arith}
-use Rattle.integers.proofs.Extend.{extend_plus, extend_minus}
+use Rattle.std.proofs.Common.{lit≤}
+use Rattle.std.specs.Int.{w8, w32}
+use Rattle.integers.proofs.Signed.{extended}
 use Rattle.integers.proofs.narrow.extended8.Goals as goal
 
-pub returns-then-a-lt128 : goal.returns-then-a-lt128
-returns-then-a-lt128 c = extend_plus 7 32 c.args.a c.if-a-lt128.true (omega arith)
-
-pub returns-else-a-lt128 : goal.returns-else-a-lt128
-returns-else-a-lt128 c = extend_minus 7 32 c.args.a _ c.if-a-lt128.false (omega arith) (omega arith)
+pub returns : goal.returns
+returns c = extended w8 c.args.byte c.ranges.byte.fits c.cast_signed.ensures w32 (lit≤ tt) c.from.ensures c.cast_unsigned.ensures

@@ -1,9 +1,0 @@
--- `long_remainder` meets its contract. Assumes nothing.
-use borrow.Author.Tests.{ne_eqb}
-use Rattle.effects.proofs.divisions.long_remainder.Goals as goal
-
-pub returns-then-b-eq0 : goal.returns-then-b-eq0
-returns-then-b-eq0 c = rw c.if-b-eq0.true
-
-pub returns-else-b-eq0 : goal.returns-else-b-eq0
-returns-else-b-eq0 c = rw (ne_eqb _ 0 c.if-b-eq0.false, ← c.lrem.ensures) c.split.ensures

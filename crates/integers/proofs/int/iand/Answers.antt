@@ -1,6 +1,0 @@
--- `iand` meets its contract. Assumes nothing.
-use Rattle.integers.proofs.Bitwise.{and_is}
-use Rattle.integers.proofs.int.iand.Goals as goal
-
-pub returns : goal.returns
-returns c = and_is 32 c.args.a c.args.b c.ranges.a.fits c.ranges.b.fits
