@@ -3,9 +3,13 @@
 
 mod float_to_float;
 mod float_to_int;
+mod format;
 mod int_to_float;
 mod rounding;
+mod words;
 
 pub use float_to_float::{d2f, f2d};
-pub use float_to_int::{d2i, d2l, f2i, f2l};
-pub use int_to_float::{i2d, i2f, l2d, l2f};
+pub use float_to_int::to_int;
+pub use format::{Format, infinity, nan, number, sign, word};
+pub use int_to_float::of_int;
+pub use words::Word;
