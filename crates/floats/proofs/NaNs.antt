@@ -21,6 +21,11 @@ nan_word f n h = is_nan_lem (of_bits f n) (sym (nan_bits_is f n) ∙ nan_bits_ab
 pub number_word : (f : Format) (n : ℕ) → n % top f ≤ ones f * hid f → T (not (nan_bits f n))
 number_word f n h = subst (λ (b : Bool). T (not b)) (sym (nan_bits_above f n ∙ le-ltb (ones f * hid f) (n % top f) h)) tt
 
+pub zero_number : (f : Format) → T (not (nan_bits f 0))
+unfolding nan_bits
+zero_number binary32 = tt
+zero_number binary64 = tt
+
 pub zero_over_zero : (f : Format) → div f (of_bits f 0) (of_bits f 0) ≡ nan
 unfolding div of_bits
 zero_over_zero binary32 = refl

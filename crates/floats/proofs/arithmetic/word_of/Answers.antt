@@ -1,8 +1,12 @@
-use Rattle.std.proofs.Common.{rules, ◌≡◌, ℕ, ◌+◌, ◌-◌, ◌*◌, ◌<◌, ◌≤◌, length, ◌/◌, ◌%◌, Bool, true, false, nat_eq, nat_lt, List, [], ◌∷◌, ◌++◌, slice_index_or, slice_set, bit_and, bit_or, Fits, w8, w32, w64, Bor, MutBor}
-use Rattle.std.specs.Float.Ieee as Ieee
-use Rattle.std.specs.Float.Ieee.{of_bits, to_bits}
+-- `word_of` meets its contract: what differs from itself is the NaN, and any other has its own word. Assumes nothing.
+use Rattle.std.proofs.Common.{not, sym, ap, ◌∙◌}
+use lib.Ieee.{ne}
+use Rattle.floats.proofs.NaNs.{nan_stored}
 use Rattle.floats.proofs.arithmetic.word_of.Goals as goal
 
--- src/arithmetic.rt:23:1
 pub returns-then-ne : goal.returns-then-ne
-returns-then-ne g c = ?
+unfolding ne
+returns-then-ne g c =
+    let x = c.args.x in
+    c.nan.ensures
+    ∙ nan_stored g.F.Format.format (g.F.Arithmetic.value x) (sym (ap not (g.met.F.Arithmetic.ieee.equates x x)) ∙ sym c.ne.ensures ∙ c.if-ne.true)
