@@ -8,7 +8,6 @@ use crate::branches::branch_effect;
 use crate::comparisons::comparison_effect;
 use crate::constants::constant_effect;
 use crate::conversion::conversion_effect;
-use crate::double::double_effect;
 use crate::float::float_effect;
 use crate::int::int_effect;
 use crate::long::long_effect;
@@ -61,9 +60,9 @@ fn arithmetic_effect(op: u8, constant: u32, a: u32, b: u32, c: u32, d: u32) -> E
         return long_effect(op, a, b, c, d);
     }
     if kind == FLOATS {
-        return float_effect(op, a, b);
+        return float_effect::<f32>(op, a, b, c, d);
     }
-    double_effect(op, a, b, c, d)
+    float_effect::<f64>(op, a, b, c, d)
 }
 
 // Whether an opcode from IFEQ on returns.

@@ -7,7 +7,6 @@ mod comparisons;
 mod constants;
 mod conversion;
 mod divisions;
-mod double;
 mod float;
 mod int;
 mod long;

@@ -1,11 +1,11 @@
 -- Which words are a NaN's, and the one word that a NaN is stored as, over the format. Assumes nothing.
 use mathlib.Core.Path.{◌≡◌, refl, sym, ap, ◌∙◌, subst}
 use Prim.Native.Nat.{ℕ, ◌*◌, ◌%◌, ◌<◌, ◌≤◌}
-use mathlib.Core.Bool.{Bool, true, false, not}
+use mathlib.Core.Bool.{Bool, true, not}
 use lib.Dec.{T}
 use lib.Ieee.{Float, nan, inf, fin, Format, binary32, binary64, hid, ones, top, of_bits, to_bits, is_nan, nan_bits, ne, div}
 use lib.Ieee.Bits.{nan_bits_is, nan_bits_above}
-use lib.Ieee.Compare.{differs_from_itself, nan_differs}
+use lib.Ieee.Compare.{differs_from_itself}
 use borrow.Author.Tests.{lt-ltb, le-ltb}
 
 -- ---- from a word: above the word of an infinity, the sign left out, each is a NaN's
@@ -34,9 +34,3 @@ zero_over_zero binary64 = refl
 -- ---- to a word: a NaN alone differs from itself
 pub nan_stored : (f : Format) (x : Float) → ne x x ≡ true → to_bits f nan ≡ to_bits f x
 nan_stored f x e = ap (to_bits f) (sym (differs_from_itself x (subst T (sym e) tt)))
-
-pub number : (x : Float) → ne x x ≡ false → T (not (is_nan x))
-unfolding is_nan
-number nan e = subst T (sym nan_differs ∙ e) tt
-number (inf s) e = tt
-number (fin s m d) e = tt

@@ -50,12 +50,12 @@ float_effect-requires c = let p = c.before.before.before.before in
     of_kind_lem 2 float_opcodes refl p.args.op p.requires.le_op (sym c.arithmetic_kind-kind.ensures ∙ c.if-kind-eq-FLOATS.true) p.requires.op_value
 
 pub returns-then-kind-eq-FLOATS : goal.returns-then-kind-eq-FLOATS
-returns-then-kind-eq-FLOATS c = let x = c.args in c.float_effect.ensures x.constant x.c x.d
+returns-then-kind-eq-FLOATS c = c.float_effect.ensures c.args.constant
 
-pub double_effect-requires : goal.double_effect-requires
+pub float_effect-requires-2 : goal.float_effect-requires-2
 unfolding shared_opcodes
-double_effect-requires c = let p = c.before.before.before.before in
+float_effect-requires-2 c = let p = c.before.before.before.before in
     of_kind_lem 3 double_opcodes refl p.args.op p.requires.le_op (last_kind p.args.op c.arithmetic_kind-kind.result c.arithmetic_kind-kind.ensures c.if-kind-eq-INTS.false c.if-kind-eq-LONGS.false c.if-kind-eq-FLOATS.false) p.requires.op_value
 
 pub returns : goal.returns
-returns c = c.double_effect.ensures c.args.constant
+returns c = c.float_effect-2.ensures c.args.constant
