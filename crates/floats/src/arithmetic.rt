@@ -69,7 +69,7 @@ pub fn rem<F: Format>(a: F::Word, b: F::Word) -> F::Word
     if y == end {
         return a;
     }
-    word::<F>(dividend - x + remainder(x, y, F::hidden()))
+    word::<F>(dividend - x + remainder::<F>(x, y))
 }
 
 // FNEG, DNEG: the sign turned over, of a zero or a NaN too.

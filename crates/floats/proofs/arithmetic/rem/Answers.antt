@@ -39,7 +39,7 @@ sum g c =
     let dividend : n % top f < ones f * hid f = rw (c.sign.ensures, c.infinity-end.ensures) at c.if-x-end.false in
     let divisor : m % top f < ones f * hid f = rw (c.sign-2.ensures, c.infinity-end.ensures) at below in
     let positive : 0 < m % top f = rw c.sign-2.ensures at some in
-    let word = rw (c.hidden.ensures, c.sign.ensures, c.sign-2.ensures) at c.remainder.ensures in
+    let word = rw (c.sign.ensures, c.sign-2.ensures) at c.remainder.ensures in
     let fits = c.number-dividend.ensures.in_range in
     rw c.sign.ensures (rem_sum f n m c.remainder.result dividend divisor positive word fits, rem_small f n m c.remainder.result dividend divisor positive word fits)
 
