@@ -1,7 +1,7 @@
 -- The whole part of what a pattern stands for, by its fields, and the shift that finds it. Over the format. Assumes nothing.
-use mathlib.Core.Path.{◌≡◌, sym, ap, ◌∙◌, subst}
+use mathlib.Core.Path.{◌≡◌, sym, ap, ◌∙◌}
 use Prim.Native.Nat.{ℕ, suc, ◌+◌, ◌-◌, ◌*◌, ◌/◌, ◌%◌, ◌^◌, ◌≤◌, ◌<◌, min}
-use native.Mathlib.Nat.{lt_of_lt_of_le, le_trans, le_of_eq, le_of_lt, mul-one, mul-le-mul_right, mul-div_cancel, div-eq_of_lt, div-le_self, min-eq_left, min-eq_right, mod-lt, div-lt_iff_lt-mul, mul_comm, mul-pos, zero-lt-suc}
+use native.Mathlib.Nat.{lt_of_lt_of_le, le_trans, le_of_eq, le_of_lt, mul-one, mul-le-mul_right, mul-div_cancel, div-eq_of_lt, div-le_self, min-eq_left, min-eq_right, mod-lt, mul-pos, zero-lt-suc}
 use native.Mathlib.Omega.{arith}
 use mathlib.Core.Bool.{Bool}
 use lib.Dec.{leb}
@@ -14,7 +14,7 @@ use lib.Ieee.Nearest.{div_same}
 use Rattle.conversions.specs.CutOff.{whole_part}
 use Rattle.conversions.proofs.Powers.{two_powers}
 use Rattle.conversions.proofs.RoundedBits.{emax_pos}
-use Rattle.conversions.proofs.Fields.{lead, place, place_is, lead_is, fields_value, fields_inf, bits_nan}
+use Rattle.conversions.proofs.Fields.{lead, place, place_is, lead_is, field_top, fields_value, fields_inf, bits_nan}
 
 -- ---- by any fraction that the value equals
 value_whole : (v : Float) (s : Bool) (a c : ℕ) → 0 < c → HasValue v s a c → min (a / c) (2 ^ 63) ≡ whole_part v
@@ -49,10 +49,7 @@ module _ (f : Format) (b : ℕ) where
   whole_normal x p l e = rw (← place_is x, ← lead_is f x (b % hid f) p) (fields_whole x l e)
 
   last : ones f ≤ b % top f / hid f → b % top f / hid f ≡ ones f
-  last l = at_most (b % top f / hid f) (ones f) l ((div-lt_iff_lt-mul (pow_pos (prec f - 1))).1 (subst (λ (n : ℕ). b % top f < n) (mul_comm (hid f) (suc (ones f))) (mod-lt b (mul-pos (pow_pos (prec f - 1)) (zero-lt-suc (ones f))))))
-    where
-      at_most : (x o : ℕ) → o ≤ x → x < suc o → x ≡ o
-      at_most x o l h = omega arith
+  last = field_top f (b % top f) (mod-lt b (mul-pos (pow_pos (prec f - 1)) (zero-lt-suc (ones f))))
 
   pub whole_inf : ones f ≤ b % top f / hid f → b % hid f ≡ 0 → 2 ^ 63 ≡ whole_part (of_bits f b)
   unfolding whole_part of_bits

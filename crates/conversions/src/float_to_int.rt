@@ -4,7 +4,7 @@ ghost use Rattle.std.specs.Float.Ieee.{of_bits, to_signed};
 ghost use Rattle.values.specs.Integers.{low};
 ghost use Rattle.conversions.specs.CutOff.{whole_part, saturated};
 
-use crate::format::{Format, number, sign};
+use crate::format::Format;
 use crate::words::Word;
 
 // m * 2^up / 2^down without its fraction, and 2^63 where it is more.
@@ -25,7 +25,7 @@ fn scaled(m: u64, up: u32, down: u32) -> u64
 fn whole<F: Format>(n: u64) -> u64
     ensures { result ≡ whole_part (of_bits F.format n) }
 {
-    let exponent = n % sign::<F>() / F::hidden();
+    let exponent = n % F::sign() / F::hidden();
     let digits = n % F::hidden();
     if exponent == 0 {
         0
@@ -58,6 +58,6 @@ fn within<W: Word>(negative: bool, size: u64) -> W
 pub fn to_int<F: Format, W: Word>(a: F::Word) -> W
     ensures { W.number result ≡ low (suc W.below) (to_signed W.below (of_bits F.format (F.Word.number a))) }
 {
-    let n = number::<F>(a);
-    within(n >= sign::<F>(), whole::<F>(n))
+    let n = F::number(a);
+    within(n >= F::sign(), whole::<F>(n))
 }

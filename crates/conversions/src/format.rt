@@ -29,6 +29,44 @@ pub trait Format {
         ensures { result ≡ ones format };
 
     ghost sign_is: { 2 ^ Self.Word.below ≡ top format };
+
+    // The weight of a word's sign.
+    final fn sign() -> u64
+        ensures { result ≡ top format }
+    {
+        Self::Word::sign()
+    }
+
+    // A word's number.
+    final fn number(word: Self::Word) -> u64
+        ensures same { result ≡ Self.Word.number word }
+        ensures in_range { result < 2 * top format }
+    {
+        word.number()
+    }
+
+    // The word with a number.
+    final fn word(n: u64) -> Self::Word
+        requires { n < 2 * top format }
+        ensures { Self.Word.number result ≡ n }
+    {
+        Self::Word::of_number(n)
+    }
+
+    // The number of infinity's word.
+    final fn infinity() -> u64
+        ensures { result ≡ ones format * hid format }
+    {
+        Self::ones() * Self::hidden()
+    }
+
+    // The word that a NaN is stored as.
+    #[tactic(auto, using(crate::proofs::RoundedBits::to_bits_nan))]
+    final fn nan() -> Self::Word
+        ensures { Self.Word.number result ≡ to_bits format nan }
+    {
+        Self::word(Self::infinity() + Self::hidden() / 2)
+    }
 }
 
 impl Format for f32 {
@@ -77,42 +115,4 @@ impl Format for f64 {
     fn ones() -> u64 {
         2047
     }
-}
-
-// The weight of a word's sign.
-pub fn sign<F: Format>() -> u64
-    ensures { result ≡ top F.format }
-{
-    F::Word::sign()
-}
-
-// A word's number.
-pub fn number<F: Format>(word: F::Word) -> u64
-    ensures same { result ≡ F.Word.number word }
-    ensures in_range { result < 2 * top F.format }
-{
-    word.number()
-}
-
-// The word with a number.
-pub fn word<F: Format>(n: u64) -> F::Word
-    requires { n < 2 * top F.format }
-    ensures { F.Word.number result ≡ n }
-{
-    F::Word::of_number(n)
-}
-
-// The number of infinity's word.
-pub fn infinity<F: Format>() -> u64
-    ensures { result ≡ ones F.format * hid F.format }
-{
-    F::ones() * F::hidden()
-}
-
-// The word that a NaN is stored as.
-#[tactic(auto, using(crate::proofs::RoundedBits::to_bits_nan))]
-pub fn nan<F: Format>() -> F::Word
-    ensures { F.Word.number result ≡ to_bits F.format nan }
-{
-    word::<F>(infinity::<F>() + F::hidden() / 2)
 }

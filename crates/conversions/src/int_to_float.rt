@@ -4,7 +4,7 @@ ghost use Rattle.std.specs.Float.Ieee as Ieee;
 ghost use Rattle.std.specs.Float.Ieee.{round, to_bits};
 ghost use Rattle.values.specs.Integers.{signed};
 
-use crate::format::{Format, sign, word};
+use crate::format::Format;
 use crate::rounding::nearest_quotient;
 use crate::words::Word;
 
@@ -29,8 +29,8 @@ pub fn of_int<W: Word, F: Format>(a: W) -> F::Word
     let n = a.number();
     let negative = W::sign();
     if n < negative {
-        word::<F>(nearest::<F>(n))
+        F::word(nearest::<F>(n))
     } else {
-        word::<F>(sign::<F>() + nearest::<F>(negative - (n - negative)))
+        F::word(F::sign() + nearest::<F>(negative - (n - negative)))
     }
 }

@@ -10,6 +10,6 @@ mod words;
 
 pub use float_to_float::{d2f, f2d};
 pub use float_to_int::to_int;
-pub use format::{Format, infinity, nan, number, sign, word};
+pub use format::Format;
 pub use int_to_float::of_int;
 pub use words::Word;

@@ -6,14 +6,14 @@ ghost use Rattle.values.specs.Integers.{flipped};
 
 use crate::machine::Arithmetic;
 use crate::remainder::remainder;
-use conversions::{Format, Word, infinity, nan, number, sign, word};
+use conversions::{Format, Word};
 
 // The float that a word stands for; every NaN's word stands for the one NaN.
 pub(crate) fn float_of<F: Arithmetic>(a: F::Word) -> F
     ensures { F.value result ≡ of_bits F.format (F.Word.number a) }
 {
-    if number::<F>(a) % sign::<F>() > infinity::<F>() {
-        let zero = F::from_bits(word::<F>(0));
+    if F::number(a) % F::sign() > F::infinity() {
+        let zero = F::from_bits(F::word(0));
         zero / zero
     } else {
         F::from_bits(a)
@@ -24,7 +24,7 @@ pub(crate) fn float_of<F: Arithmetic>(a: F::Word) -> F
 fn word_of<F: Arithmetic>(x: F) -> F::Word
     ensures { F.Word.number result ≡ to_bits F.format (F.value x) }
 {
-    if x != x { nan::<F>() } else { x.to_bits() }
+    if x != x { F::nan() } else { x.to_bits() }
 }
 
 // FADD, DADD: a + b.
@@ -59,17 +59,17 @@ pub fn div<F: Arithmetic>(a: F::Word, b: F::Word) -> F::Word
 pub fn rem<F: Format>(a: F::Word, b: F::Word) -> F::Word
     ensures { F.Word.number result ≡ to_bits F.format (Ieee.rem F.format (of_bits F.format (F.Word.number a)) (of_bits F.format (F.Word.number b))) }
 {
-    let dividend = number::<F>(a);
-    let x = dividend % sign::<F>();
-    let y = number::<F>(b) % sign::<F>();
-    let end = infinity::<F>();
+    let dividend = F::number(a);
+    let x = dividend % F::sign();
+    let y = F::number(b) % F::sign();
+    let end = F::infinity();
     if x >= end || y > end || y == 0 {
-        return nan::<F>();
+        return F::nan();
     }
     if y == end {
         return a;
     }
-    word::<F>(dividend - x + remainder::<F>(x, y))
+    F::word(dividend - x + remainder::<F>(x, y))
 }
 
 // FNEG, DNEG: the sign turned over, of a zero or a NaN too.

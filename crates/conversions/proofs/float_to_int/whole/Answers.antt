@@ -9,9 +9,9 @@ returns-then-exponent-eq0 g c = whole_subnormal g.F.Format.format c.args.n (rw (
 pub returns-then-exponent-ones : goal.returns-then-exponent-ones
 returns-then-exponent-ones g c =
     let some : 0 < c.args.n % c.sign.result / c.hidden.result = omega arith in
-    c.scaled.ensures
-    ∙ rw (c.hidden-then-exponent-ones.ensures, c.hidden-2.ensures, c.sign.ensures, c.hidden.ensures, c.low.ensures)
-    (whole_normal g.F.Format.format c.args.n _ (rw (c.sign.ensures, c.hidden.ensures) at some) (rw (c.sign.ensures, c.hidden.ensures, c.ones.ensures) at c.if-exponent-ones.true) refl)
+    let scaled = rw (c.hidden-then-exponent-ones.ensures, c.hidden-2.ensures, c.sign.ensures, c.hidden.ensures, c.low.ensures) at c.scaled.ensures in
+    scaled
+    ∙ (whole_normal g.F.Format.format c.args.n _ (rw (c.sign.ensures, c.hidden.ensures) at some) (rw (c.sign.ensures, c.hidden.ensures, c.ones.ensures) at c.if-exponent-ones.true) refl)
 
 pub returns-then-digits-eq0 : goal.returns-then-digits-eq0
 returns-then-digits-eq0 g c =

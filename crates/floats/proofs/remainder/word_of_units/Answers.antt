@@ -1,5 +1,5 @@
 -- `word_of_units` meets its contract. Assumes nothing.
-use Rattle.std.proofs.Common.{◌∙◌, arith}
+use Rattle.std.proofs.Common.{◌*◌, ◌^◌, ◌∙◌, arith}
 use lib.Ieee.{hid}
 use Rattle.floats.proofs.UnitWords.{doubled, in_place}
 use Rattle.floats.proofs.remainder.word_of_units.Goals as goal
@@ -14,4 +14,4 @@ loop-i-preserved g c = record {
 pub returns : goal.returns
 returns g c =
     let at = c.loop-i in
-    in_place (hid g.F.Format.format) at.moved at.i c.args.place _ c.loop-i-test.false at.invariant.units (rw at.invariant.field at at.invariant.few)
+    in_place (hid g.F.Format.format) at.moved at.i c.args.place (c.args.digits * 2 ^ c.args.place) c.loop-i-test.false at.invariant.units (rw at.invariant.field at at.invariant.few)
