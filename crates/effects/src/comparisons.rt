@@ -10,6 +10,7 @@ use instructions::opcodes::*;
 use integers::{join_words, lcmp};
 
 // LCMP to DCMPG.
+#[tactic(auto, unfolding(crate::specs::Effects::effect_at, rules::specs::Instructions::row_of))]
 pub(crate) fn comparison_effect(op: u8, a: u32, b: u32, c: u32, d: u32) -> Effect
     requires { is_in comparison_opcodes op ≡ true }
     ensures { (constant : ℕ) → result ≡ effect_at op constant a b c d }

@@ -10,6 +10,7 @@ use instructions::opcodes::*;
 use integers::{i2b, i2c, i2l, i2s, join_words, l2i};
 
 // I2L to I2S.
+#[tactic(auto, unfolding(crate::specs::Effects::effect_at, rules::specs::Instructions::row_of))]
 pub(crate) fn conversion_effect(op: u8, a: u32, b: u32) -> Effect
     requires { is_in conversion_opcodes op ≡ true }
     ensures { (constant c d : ℕ) → result ≡ effect_at op constant a b c d }
