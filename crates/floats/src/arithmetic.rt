@@ -55,7 +55,8 @@ pub fn div<F: Arithmetic>(a: F::Word, b: F::Word) -> F::Word
     word_of(float_of::<F>(a) / float_of(b))
 }
 
-// FREM, DREM: a - b * n, n being a / b cut off toward zero; it has a's sign.
+// FREM, DREM: a - b * n, n being a / b cut off toward zero; it has a's sign. Kept out of the step's code, whose registers its loops would take.
+#[inline(never)]
 pub fn rem<F: Format>(a: F::Word, b: F::Word) -> F::Word
     ensures { F.Word.number result ≡ to_bits F.format (Ieee.rem F.format (of_bits F.format (F.Word.number a)) (of_bits F.format (F.Word.number b))) }
 {
