@@ -1,4 +1,4 @@
-// Conversions between ints, longs, floats and doubles as words (JVMS 2.8, 2.11.4): a function for each instruction, named by its mnemonic.
+// Conversions between ints, longs, floats and doubles as words (JVMS 2.8, 2.11.4): one from integers over the width and the format, one back, and the two between the formats.
 #![tactic(auto)]
 
 mod float_to_float;
