@@ -1,6 +1,7 @@
 // Whether a function takes its operands to the result of a vector. A function is known by its opcode in JVMS, IINC after WIDE by
 // that of WIDE. Each opcode is in one of the families below, and the other families answer false.
 
+use floats::Unordered;
 use integers::Integer;
 
 // The largest word.
@@ -59,13 +60,13 @@ fn test_holds(op: u64, a: u32, b: u32, res: u64) -> bool {
 // From two floats.
 fn float_holds(op: u64, a: u32, b: u32, res: u64) -> bool {
     match op {
-        0x62 => wide(floats::fadd(a, b)) == res,
-        0x66 => wide(floats::fsub(a, b)) == res,
-        0x6A => wide(floats::fmul(a, b)) == res,
-        0x6E => wide(floats::fdiv(a, b)) == res,
-        0x72 => wide(floats::frem(a, b)) == res,
-        0x95 => wide(floats::fcmpl(a, b)) == res,
-        0x96 => wide(floats::fcmpg(a, b)) == res,
+        0x62 => wide(floats::add::<f32>(a, b)) == res,
+        0x66 => wide(floats::sub::<f32>(a, b)) == res,
+        0x6A => wide(floats::mul::<f32>(a, b)) == res,
+        0x6E => wide(floats::div::<f32>(a, b)) == res,
+        0x72 => wide(floats::rem::<f32>(a, b)) == res,
+        0x95 => wide(floats::compare::<f32>(a, b, Unordered::Less)) == res,
+        0x96 => wide(floats::compare::<f32>(a, b, Unordered::Greater)) == res,
         _ => false,
     }
 }
@@ -74,12 +75,12 @@ fn float_holds(op: u64, a: u32, b: u32, res: u64) -> bool {
 fn one_word_holds(op: u64, a: u32, res: u64) -> bool {
     match op {
         0x74 => wide(a.neg()) == res,
-        0x76 => wide(floats::fneg(a)) == res,
+        0x76 => wide(floats::neg::<f32>(a)) == res,
         0x85 => integers::i2l(a) == res,
-        0x86 => wide(conversions::i2f(a)) == res,
-        0x87 => conversions::i2d(a) == res,
-        0x8B => wide(conversions::f2i(a)) == res,
-        0x8C => conversions::f2l(a) == res,
+        0x86 => wide(conversions::of_int::<u32, f32>(a)) == res,
+        0x87 => conversions::of_int::<u32, f64>(a) == res,
+        0x8B => wide(conversions::to_int::<f32, u32>(a)) == res,
+        0x8C => conversions::to_int::<f32, u64>(a) == res,
         0x8D => conversions::f2d(a) == res,
         0x91 => wide(integers::i2b(a)) == res,
         0x92 => wide(integers::i2c(a)) == res,
@@ -117,13 +118,13 @@ fn shift_holds(op: u64, a: u64, count: u32, res: u64) -> bool {
 // From two doubles.
 fn double_holds(op: u64, a: u64, b: u64, res: u64) -> bool {
     match op {
-        0x63 => floats::dadd(a, b) == res,
-        0x67 => floats::dsub(a, b) == res,
-        0x6B => floats::dmul(a, b) == res,
-        0x6F => floats::ddiv(a, b) == res,
-        0x73 => floats::drem(a, b) == res,
-        0x97 => wide(floats::dcmpl(a, b)) == res,
-        0x98 => wide(floats::dcmpg(a, b)) == res,
+        0x63 => floats::add::<f64>(a, b) == res,
+        0x67 => floats::sub::<f64>(a, b) == res,
+        0x6B => floats::mul::<f64>(a, b) == res,
+        0x6F => floats::div::<f64>(a, b) == res,
+        0x73 => floats::rem::<f64>(a, b) == res,
+        0x97 => wide(floats::compare::<f64>(a, b, Unordered::Less)) == res,
+        0x98 => wide(floats::compare::<f64>(a, b, Unordered::Greater)) == res,
         _ => false,
     }
 }
@@ -132,12 +133,12 @@ fn double_holds(op: u64, a: u64, b: u64, res: u64) -> bool {
 fn one_long_holds(op: u64, a: u64, res: u64) -> bool {
     match op {
         0x75 => a.neg() == res,
-        0x77 => floats::dneg(a) == res,
+        0x77 => floats::neg::<f64>(a) == res,
         0x88 => wide(integers::l2i(a)) == res,
-        0x89 => wide(conversions::l2f(a)) == res,
-        0x8A => conversions::l2d(a) == res,
-        0x8E => wide(conversions::d2i(a)) == res,
-        0x8F => conversions::d2l(a) == res,
+        0x89 => wide(conversions::of_int::<u64, f32>(a)) == res,
+        0x8A => conversions::of_int::<u64, f64>(a) == res,
+        0x8E => wide(conversions::to_int::<f64, u32>(a)) == res,
+        0x8F => conversions::to_int::<f64, u64>(a) == res,
         0x90 => wide(conversions::d2f(a)) == res,
         _ => false,
     }

@@ -2,7 +2,7 @@
 use mathlib.Core.Path.{◌≡◌, refl, sym, ap, ◌∙◌, subst}
 use mathlib.Core.Logic.{◌⊎◌, inl, inr}
 use Prim.Native.Nat.{ℕ, zero, suc, ◌+◌, ◌-◌, ◌*◌, ◌/◌, ◌%◌, ◌^◌, ◌≤◌, ◌<◌, min}
-use native.Mathlib.Nat.{lt_irrefl, eq-or-lt_of_le}
+use native.Mathlib.Nat.{lt_irrefl, eq-or-lt_of_le, div-lt_iff_lt-mul, mul_comm}
 use native.Mathlib.Omega.{arith}
 use mathlib.Core.Bool.{Bool, true, false, cond}
 use lib.Dec.{T, eqb, eqb→eq, leb}
@@ -91,6 +91,13 @@ fields_nan f s x t e z = fields_top f s x t e ∙ ap (λ (b : Bool). cond b (inf
 pub bits_nan : (f : Format) (b : ℕ) → b % top f / hid f ≡ ones f → (b % hid f ≡ 0 → ⊥) → of_bits f b ≡ nan
 unfolding of_bits
 bits_nan f b e z = fields_nan f (leb (top f) b) (b % top f / hid f) (b % hid f) e z
+
+-- the exponent's field is at most all ones
+pub field_top : (f : Format) (w : ℕ) → w < top f → ones f ≤ w / hid f → w / hid f ≡ ones f
+field_top f w h l = at_most (w / hid f) (ones f) l ((div-lt_iff_lt-mul (pow_pos (prec f - 1))).1 (subst (λ (n : ℕ). w < n) (mul_comm (hid f) (suc (ones f))) h))
+  where
+    at_most : (x o : ℕ) → o ≤ x → x < suc o → x ≡ o
+    at_most x o l h = omega arith
 
 -- ---- the sign stands apart, at any format
 pub fields_negative : (f g : Format) (x t : ℕ) → (x ≡ ones f → t ≡ 0) → to_bits g (of_fields f true x t) ≡ top g + to_bits g (of_fields f false x t)

@@ -2,12 +2,13 @@
 use mathlib.Core.Path.{◌≡◌, refl, sym, ap, ◌∙◌, subst}
 use mathlib.Core.Logic.{inr}
 use Prim.Native.Nat.{ℕ, suc, ◌+◌, ◌-◌, ◌*◌, ◌%◌, ◌^◌, ◌≤◌, ◌<◌, min}
-use native.Mathlib.Nat.{le_trans, le_of_eq, mul-one, mul-le-mul_right, zero-add, zero-lt-suc, add-mul, min-eq_left, mod-eq_of_lt}
+use native.Mathlib.Nat.{le_trans, le_of_eq, mul-one, mul-le-mul_right, lt_of_lt_of_le, zero-add, zero-lt-suc, add-mul, min-eq_left, mod-eq_of_lt, pow-succ'}
 use native.Mathlib.Omega.{arith}
 use mathlib.Core.Bool.{false}
 use lib.IntN.{ℤ, pos, negsuc}
 use lib.Count.{count_leading_zeros}
-use lib.Ieee.{Format, prec, emax, low, round, hid, ones, top, to_bits, of_int}
+use lib.Dec.{lit≤}
+use lib.Ieee.{Format, binary32, binary64, prec, emax, low, round, hid, ones, top, to_bits, of_int}
 use lib.Ieee.Fits.{two, reach}
 use lib.Ieee.Nearest.{closest}
 use Rattle.values.specs.Integers.{signed}
@@ -17,6 +18,24 @@ use Rattle.conversions.proofs.Quotients.{closest_le}
 use Rattle.conversions.proofs.LeadingZeros.{zeros_lt, normalised}
 use Rattle.conversions.proofs.RoundedBits.{round_bits}
 use Rattle.conversions.proofs.SignBit.{round_sign}
+
+-- the word is as wide as the format's digits, and leaves room above its exponent's field
+pub wide : (f : Format) → prec f ≤ 64
+wide binary32 = lit≤ tt
+wide binary64 = lit≤ tt
+
+pub fine : (f : Format) → low f + (64 - prec f) + 2 ≤ ones f
+fine binary32 = lit≤ tt
+fine binary64 = lit≤ tt
+
+pub sum_fits : (f : Format) (n : ℕ) → n < 2 * top f → n < 2 ^ 64
+sum_fits binary32 n h = lt_of_lt_of_le h (lit≤ tt)
+sum_fits binary64 n h = h
+
+pub rounded_zero : (f : Format) → 0 ≡ to_bits f (round f false 0 1)
+unfolding to_bits round
+rounded_zero binary32 = refl
+rounded_zero binary64 = refl
 
 split : (p w : ℕ) → p ≤ w → w ≡ p + (w - p)
 split p w h = omega arith
@@ -80,6 +99,9 @@ module _ (f : Format) (w n : ℕ) (wide : prec f ≤ w) (positive : 0 < n) (belo
             plus k l h = omega arith
 
 -- ---- the word a of h bits and a sign
+pub magnitude : (h a s : ℕ) → s ≡ 2 ^ h → s ≤ a → a < 2 * 2 ^ h → s - (a - s) ≡ suc (2 ^ suc h - suc a)
+magnitude h a s e l b = let p = pow-succ' 2 h in rw p (omega arith)
+
 of_int_plus : (f : Format) (n : ℕ) → of_int f (pos n) ≡ round f false n 1
 unfolding of_int
 of_int_plus f n = refl

@@ -55,9 +55,6 @@ subnormal_lt x t h l = lt_of_lt_of_le (digits_lt t l) (pow_mono wide)
 pub subnormal_le : (x t : ℕ) → x < 897 → t < 2 ^ 52 → closest (2 ^ 52 + t) (2 ^ (926 - x)) ≤ 2 ^ 24
 subnormal_le x t h l = closest_le (2 ^ 52 + t) 24 (926 - x) (subnormal_lt x t h l)
 
-pub normal_le : (t : ℕ) → t < 2 ^ 52 → closest (2 ^ 52 + t) (2 ^ 29) ≤ 2 ^ 24
-normal_le t l = closest_le (2 ^ 52 + t) 24 29 (digits_lt t l)
-
 -- ---- a float above zero
 module _ (x t : ℕ) (h : 863 ≤ x) (k : x < 2047) (l : t < 2 ^ 52) where
   positive : 0 < x

@@ -1,7 +1,7 @@
 -- A whole size with a sign, brought into the range of an int or a long, and its word there. Over the width and the format. Assumes nothing.
 use mathlib.Core.Path.{◌≡◌, sym, ap, ◌∙◌}
-use Prim.Native.Nat.{ℕ, zero, suc, ◌-◌, ◌*◌, ◌/◌, ◌^◌, ◌≤◌, ◌<◌, min}
-use native.Mathlib.Nat.{lt_irrefl, le_of_lt, le_refl, min-eq_left, min-eq_right, pow-succ'}
+use Prim.Native.Nat.{ℕ, zero, suc, ◌+◌, ◌-◌, ◌*◌, ◌/◌, ◌^◌, ◌≤◌, ◌<◌, min}
+use native.Mathlib.Nat.{lt_irrefl, le_of_lt, pow-succ'}
 use native.Mathlib.Omega.{arith}
 use mathlib.Core.Bool.{Bool, true, false, cond}
 use lib.Dec.{leb}
@@ -67,35 +67,24 @@ module _ (h : ℕ) (s : Bool) (w : ℕ) where
   signed_as : (b : Bool) → s ≡ b → low (suc h) (saturated h b w) ≡ low (suc h) (saturated h s w)
   signed_as b e = ap (λ (t : Bool). low (suc h) (saturated h t w)) (sym e)
 
-  minus : (n : ℕ) → s ≡ true → 0 < n → n ≤ 2 ^ h → min w (2 ^ h) ≡ n → 2 ^ suc h - n ≡ low (suc h) (saturated h s w)
-  minus n e p l m = negative_word h n p l ∙ ap (λ (x : ℕ). low (suc h) (neg_ℤ (pos x))) (sym m) ∙ signed_as true e
-
-  plus : (n : ℕ) → s ≡ false → n ≤ 2 ^ h → min w (2 ^ h - 1) ≡ n → n ≡ low (suc h) (saturated h s w)
-  plus n e l m = sym (low_plus (suc h) n (in_word h n l)) ∙ ap (λ (x : ℕ). low (suc h) (pos x)) (sym m) ∙ signed_as false e
-
-  pub minus_zero : s ≡ true → w ≡ 0 → 0 ≡ low (suc h) (saturated h s w)
-  minus_zero e z = sym (low_plus (suc h) 0 (pow_pos (suc h))) ∙ ap (λ (x : ℕ). low (suc h) (neg_ℤ (pos x))) (least (2 ^ h)) ∙ signed_as true e
+  pub plus : (n : ℕ) → s ≡ false → n ≡ min w (2 ^ h - 1) → n ≡ low (suc h) (saturated h s w)
+  plus n e m = sym (low_plus (suc h) n (in_word h n (small (2 ^ h) m))) ∙ ap (λ (x : ℕ). low (suc h) (pos x)) m ∙ signed_as false e
     where
-      least : (b : ℕ) → 0 ≡ min w b
-      least b = omega arith
+      small : (b : ℕ) → n ≡ min w (b - 1) → n ≤ b
+      small b m = omega (arith, m)
 
-  pub minus_inside : s ≡ true → 0 < w → w < 2 ^ h → 2 ^ suc h - w ≡ low (suc h) (saturated h s w)
-  minus_inside e p l = minus w e p (le_of_lt l) (min-eq_left (le_of_lt l))
+  pub minus_zero : (n : ℕ) → s ≡ true → n ≡ min w (2 ^ h) → n ≡ 0 → 0 ≡ low (suc h) (saturated h s w)
+  minus_zero n e m z = sym (low_plus (suc h) 0 (pow_pos (suc h))) ∙ ap (λ (x : ℕ). low (suc h) (neg_ℤ (pos x))) (sym z ∙ m) ∙ signed_as true e
 
-  pub minus_end : s ≡ true → 2 ^ h ≤ w → 2 ^ suc h - 2 ^ h ≡ low (suc h) (saturated h s w)
-  minus_end e l = minus (2 ^ h) e (pow_pos h) (le_refl (2 ^ h)) (min-eq_right l)
-
-  pub plus_inside : s ≡ false → w < 2 ^ h → w ≡ low (suc h) (saturated h s w)
-  plus_inside e l = plus w e (le_of_lt l) (less (2 ^ h) l)
+  pub minus : (n : ℕ) → s ≡ true → n ≡ min w (2 ^ h) → (n ≡ 0 → ⊥) → 2 ^ h - n + 2 ^ h ≡ low (suc h) (saturated h s w)
+  minus n e m p =
+      twice (2 ^ h) (2 ^ suc h) (pow-succ' 2 h) (small (2 ^ h) m)
+      ∙ negative_word h n (omega arith) (small (2 ^ h) m)
+      ∙ ap (λ (x : ℕ). low (suc h) (neg_ℤ (pos x))) m
+      ∙ signed_as true e
     where
-      less : (b : ℕ) → w < b → min w (b - 1) ≡ w
-      less b l = omega arith
+      small : (b : ℕ) → n ≡ min w b → n ≤ b
+      small b m = omega (arith, m)
 
-  pub plus_end : s ≡ false → 2 ^ h ≤ w → 2 ^ h - 1 ≡ low (suc h) (saturated h s w)
-  plus_end e l = plus (2 ^ h - 1) e (less (2 ^ h)) (last (2 ^ h) l)
-    where
-      less : (b : ℕ) → b - 1 ≤ b
-      less b = omega arith
-
-      last : (b : ℕ) → b ≤ w → min w (b - 1) ≡ b - 1
-      last b l = omega arith
+      twice : (a b : ℕ) → b ≡ 2 * a → n ≤ a → a - n + a ≡ b - n
+      twice a b e l = omega arith

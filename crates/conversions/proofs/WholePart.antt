@@ -1,19 +1,20 @@
 -- The whole part of what a pattern stands for, by its fields, and the shift that finds it. Over the format. Assumes nothing.
 use mathlib.Core.Path.{◌≡◌, sym, ap, ◌∙◌}
 use Prim.Native.Nat.{ℕ, suc, ◌+◌, ◌-◌, ◌*◌, ◌/◌, ◌%◌, ◌^◌, ◌≤◌, ◌<◌, min}
-use native.Mathlib.Nat.{lt_of_lt_of_le, le_trans, le_of_eq, le_of_lt, mul-one, mul-le-mul_right, mul-div_cancel, div-eq_of_lt, div-le_self, min-eq_left, min-eq_right}
+use native.Mathlib.Nat.{lt_of_lt_of_le, le_trans, le_of_eq, le_of_lt, mul-one, mul-le-mul_right, mul-div_cancel, div-eq_of_lt, div-le_self, min-eq_left, min-eq_right, mod-lt, mul-pos, zero-lt-suc}
 use native.Mathlib.Omega.{arith}
 use mathlib.Core.Bool.{Bool}
 use lib.Dec.{leb}
 use lib.Pow.{pow_pos, pow-add, pow_mono, shl_lt}
 use lib.Count.{count_leading_zeros, leading_top}
-use lib.Ieee.{Float, nan, inf, fin, Format, emax, low, up, down, hid, ones, top, of_fields, of_bits}
-use lib.Ieee.Fits.{down_pos}
+use lib.Ieee.{Float, nan, inf, fin, Format, prec, emax, low, up, down, hid, ones, top, of_fields, of_bits}
+use lib.Ieee.Fits.{two, down_pos}
 use lib.Ieee.Exact.{HasValue}
 use lib.Ieee.Nearest.{div_same}
 use Rattle.conversions.specs.CutOff.{whole_part}
 use Rattle.conversions.proofs.Powers.{two_powers}
-use Rattle.conversions.proofs.Fields.{lead, place, fields_value, fields_inf, bits_nan}
+use Rattle.conversions.proofs.RoundedBits.{emax_pos}
+use Rattle.conversions.proofs.Fields.{lead, place, place_is, lead_is, field_top, fields_value, fields_inf, bits_nan}
 
 -- ---- by any fraction that the value equals
 value_whole : (v : Float) (s : Bool) (a c : ℕ) → 0 < c → HasValue v s a c → min (a / c) (2 ^ 63) ≡ whole_part v
@@ -32,24 +33,31 @@ module _ (f : Format) (b : ℕ) where
       value_whole (of_fields f s x t) s (lead f x t * 2 ^ place x) (2 ^ low f) (pow_pos (low f)) (fields_value f s x t l)
       ∙ ap (λ (y : ℕ). whole_part (of_fields f s y t)) (sym e)
 
-  pub whole_subnormal : b % hid f < 2 ^ low f → b % top f / hid f ≡ 0 → 0 ≡ whole_part (of_bits f b)
-  whole_subnormal l e =
+  pub whole_subnormal : b % top f / hid f ≡ 0 → 0 ≡ whole_part (of_bits f b)
+  whole_subnormal e =
       let t = b % hid f in
+      let l : t < 2 ^ low f = lt_of_lt_of_le (mod-lt b (pow_pos (prec f - 1))) (pow_mono (above (emax f) (prec f) (emax_pos f) (two f))) in
       sym (ap (λ (n : ℕ). min (n / 2 ^ low f) (2 ^ 63)) (mul-one t) ∙ ap (λ (n : ℕ). min n (2 ^ 63)) (div-eq_of_lt l)) ∙ fields_whole 0 (some (emax f)) e
     where
       some : (n : ℕ) → 0 < 2 * n + 1
       some n = omega arith
 
-  pub whole_normal : (x : ℕ) → suc x < ones f → b % top f / hid f ≡ suc x → min ((hid f + b % hid f) * 2 ^ x / 2 ^ low f) (2 ^ 63) ≡ whole_part (of_bits f b)
-  whole_normal x l e = fields_whole (suc x) l e
+      above : (e p : ℕ) → 0 < e → 2 ≤ p → p - 1 ≤ e + p - 2
+      above e p a b = omega arith
 
-  pub whole_inf : b % top f / hid f ≡ ones f → b % hid f ≡ 0 → 2 ^ 63 ≡ whole_part (of_bits f b)
+  pub whole_normal : (x : ℕ) → 0 < x → x < ones f → b % top f / hid f ≡ x → min ((hid f + b % hid f) * 2 ^ (x - 1) / 2 ^ low f) (2 ^ 63) ≡ whole_part (of_bits f b)
+  whole_normal x p l e = rw (← place_is x, ← lead_is f x (b % hid f) p) (fields_whole x l e)
+
+  last : ones f ≤ b % top f / hid f → b % top f / hid f ≡ ones f
+  last = field_top f (b % top f) (mod-lt b (mul-pos (pow_pos (prec f - 1)) (zero-lt-suc (ones f))))
+
+  pub whole_inf : ones f ≤ b % top f / hid f → b % hid f ≡ 0 → 2 ^ 63 ≡ whole_part (of_bits f b)
   unfolding whole_part of_bits
-  whole_inf e z = sym (ap whole_part (fields_inf f (leb (top f) b) (b % top f / hid f) (b % hid f) e z))
+  whole_inf l z = sym (ap whole_part (fields_inf f (leb (top f) b) (b % top f / hid f) (b % hid f) (last l) z))
 
-  pub whole_nan : b % top f / hid f ≡ ones f → (b % hid f ≡ 0 → ⊥) → 0 ≡ whole_part (of_bits f b)
+  pub whole_nan : ones f ≤ b % top f / hid f → (b % hid f ≡ 0 → ⊥) → 0 ≡ whole_part (of_bits f b)
   unfolding whole_part
-  whole_nan e z = sym (ap whole_part (bits_nan f b e z))
+  whole_nan l z = sym (ap whole_part (bits_nan f b (last l) z))
 
 -- ---- m * 2 ^ x / 2 ^ l by a shift
 module _ (m x l : ℕ) where

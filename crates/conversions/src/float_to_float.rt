@@ -1,4 +1,5 @@
 // Floats to doubles, which is exact, and doubles to floats, rounded once: the fields are converted without the sign, and the sign is put back.
+// Each way has its own function: they differ in what becomes of the fields, and not in a format alone.
 ghost use Rattle.std.specs.Prelude.{◌≡◌, false, ◌<◌, ◌≤◌, ◌^◌};
 ghost use Rattle.std.specs.Float.{binary32, binary64};
 ghost use Rattle.std.specs.Float.Ieee.{of_fields};

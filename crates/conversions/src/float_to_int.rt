@@ -1,9 +1,11 @@
 // Floats and doubles to ints and longs: toward zero, to the nearest end of the range where the number is out of it, and 0 for a NaN.
-ghost use Rattle.std.specs.Prelude.{◌≡◌, ◌*◌, ◌/◌, ◌<◌, ◌^◌, min};
-ghost use Rattle.std.specs.Float.Ieee.{to_signed};
-ghost use Rattle.values.specs.Kinds.{int, long, float, double};
-ghost use Rattle.values.specs.Words.{meaning, bits};
+ghost use Rattle.std.specs.Prelude.{◌≡◌, ◌*◌, ◌/◌, ◌<◌, ◌≤◌, ◌^◌, min, suc};
+ghost use Rattle.std.specs.Float.Ieee.{of_bits, to_signed};
+ghost use Rattle.values.specs.Integers.{low};
 ghost use Rattle.conversions.specs.CutOff.{whole_part, saturated};
+
+use crate::format::Format;
+use crate::words::Word;
 
 // m * 2^up / 2^down without its fraction, and 2^63 where it is more.
 fn scaled(m: u64, up: u32, down: u32) -> u64
@@ -19,16 +21,16 @@ fn scaled(m: u64, up: u32, down: u32) -> u64
     }
 }
 
-// The whole part of a float's size.
-fn float_whole(a: u32) -> u64
-    ensures { result ≡ whole_part (meaning float a) }
+// The whole part of the size of what a word stands for.
+fn whole<F: Format>(n: u64) -> u64
+    ensures { result ≡ whole_part (of_bits F.format n) }
 {
-    let exponent = a % 0x8000_0000 / 0x80_0000;
-    let digits = a % 0x80_0000;
+    let exponent = n % F::sign() / F::hidden();
+    let digits = n % F::hidden();
     if exponent == 0 {
         0
-    } else if exponent < 255 {
-        scaled((0x80_0000 + digits) as u64, exponent - 1, 149)
+    } else if exponent < F::ones() {
+        scaled(F::hidden() + digits, (exponent - 1) as u32, F::low())
     } else if digits == 0 {
         0x8000_0000_0000_0000
     } else {
@@ -36,85 +38,26 @@ fn float_whole(a: u32) -> u64
     }
 }
 
-// The whole part of a double's size.
-fn double_whole(a: u64) -> u64
-    ensures { result ≡ whole_part (meaning double a) }
+// The word of the integer nearest to a size with a sign.
+fn within<W: Word>(negative: bool, size: u64) -> W
+    ensures { W.number result ≡ low (suc W.below) (saturated W.below negative size) }
 {
-    let exponent = a % 0x8000_0000_0000_0000 / 0x10_0000_0000_0000;
-    let digits = a % 0x10_0000_0000_0000;
-    if exponent == 0 {
-        0
-    } else if exponent < 2047 {
-        scaled(0x10_0000_0000_0000 + digits, (exponent - 1) as u32, 1074)
-    } else if digits == 0 {
-        0x8000_0000_0000_0000
+    let sign = W::sign();
+    if !negative {
+        return W::of_number(size.min(sign - 1));
+    }
+    let kept = size.min(sign);
+    if kept == 0 {
+        W::of_number(0)
     } else {
-        0
+        W::of_number(sign - kept + sign)
     }
 }
 
-// The word of the int nearest to a size with a sign.
-fn int_within(negative: bool, size: u64) -> u32
-    ensures { result ≡ bits int (saturated 31 negative size) }
+// F2I, F2L, D2I, D2L: a float or a double cut off to an int or a long.
+pub fn to_int<F: Format, W: Word>(a: F::Word) -> W
+    ensures { W.number result ≡ low (suc W.below) (to_signed W.below (of_bits F.format (F.Word.number a))) }
 {
-    if negative {
-        if size == 0 {
-            0
-        } else if size < 0x8000_0000 {
-            0xffff_ffff - (size as u32 - 1)
-        } else {
-            0x8000_0000
-        }
-    } else if size < 0x8000_0000 {
-        size as u32
-    } else {
-        0x7fff_ffff
-    }
-}
-
-// The word of the long nearest to a size with a sign.
-fn long_within(negative: bool, size: u64) -> u64
-    ensures { result ≡ bits long (saturated 63 negative size) }
-{
-    if negative {
-        if size == 0 {
-            0
-        } else if size < 0x8000_0000_0000_0000 {
-            0xffff_ffff_ffff_ffff - (size - 1)
-        } else {
-            0x8000_0000_0000_0000
-        }
-    } else if size < 0x8000_0000_0000_0000 {
-        size
-    } else {
-        0x7fff_ffff_ffff_ffff
-    }
-}
-
-// F2I: a float cut off to an int.
-pub fn f2i(a: u32) -> u32
-    ensures { result ≡ bits int (to_signed 31 (meaning float a)) }
-{
-    int_within(a >= 0x8000_0000, float_whole(a))
-}
-
-// F2L: a float cut off to a long.
-pub fn f2l(a: u32) -> u64
-    ensures { result ≡ bits long (to_signed 63 (meaning float a)) }
-{
-    long_within(a >= 0x8000_0000, float_whole(a))
-}
-
-// D2I: a double cut off to an int.
-pub fn d2i(a: u64) -> u32
-    ensures { result ≡ bits int (to_signed 31 (meaning double a)) }
-{
-    int_within(a >= 0x8000_0000_0000_0000, double_whole(a))
-}
-
-// D2L: a double cut off to a long.
-pub fn d2l(a: u64) -> u64
-    ensures { result ≡ bits long (to_signed 63 (meaning double a)) }
-{
-    long_within(a >= 0x8000_0000_0000_0000, double_whole(a))
+    let n = F::number(a);
+    within(n >= F::sign(), whole::<F>(n))
 }

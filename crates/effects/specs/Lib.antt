@@ -1,3 +1,4 @@
 pub mod Effects
 pub mod Families
 pub mod Operations
+pub mod Floats

@@ -9,7 +9,6 @@ use crate::branches::branch_effect;
 use crate::comparisons::comparison_effect;
 use crate::constants::constant_effect;
 use crate::conversion::conversion_effect;
-use crate::double::double_effect;
 use crate::float::float_effect;
 use crate::moves::move_effect;
 use crate::outcome::{Effect, nothing, one};
@@ -75,8 +74,8 @@ fn arithmetic_effect(op: u8, constant: u32, a: u32, b: u32, c: u32, d: u32) -> E
         Numbers::Longs => {
             integer_effect(operation_of(op - 1), join_words(a, b), join_words(c, d), c)
         }
-        Numbers::Floats => float_effect(op, a, b),
-        Numbers::Doubles => double_effect(op, a, b, c, d),
+        Numbers::Floats => float_effect::<f32>(op, a, b, c, d),
+        Numbers::Doubles => float_effect::<f64>(op, a, b, c, d),
     }
 }
 

@@ -5,11 +5,12 @@ ghost use Rattle.effects.specs.Effects.{effect_at};
 ghost use Rattle.effects.specs.Families.{comparison_opcodes};
 
 use crate::outcome::{Effect, one};
-use floats::{dcmpg, dcmpl, fcmpg, fcmpl};
+use floats::{Unordered, compare};
 use instructions::opcodes::*;
 use integers::{join_words, lcmp};
 
 // LCMP to DCMPG.
+#[tactic(auto, unfolding(crate::specs::Effects::effect_at, rules::specs::Instructions::row_of))]
 pub(crate) fn comparison_effect(op: u8, a: u32, b: u32, c: u32, d: u32) -> Effect
     requires { is_in comparison_opcodes op ≡ true }
     ensures { (constant : ℕ) → result ≡ effect_at op constant a b c d }
@@ -18,9 +19,9 @@ pub(crate) fn comparison_effect(op: u8, a: u32, b: u32, c: u32, d: u32) -> Effec
     let y = join_words(c, d);
     match op {
         LCMP => one(lcmp(x, y)),
-        FCMPL => one(fcmpl(a, b)),
-        FCMPG => one(fcmpg(a, b)),
-        DCMPL => one(dcmpl(x, y)),
-        _ => one(dcmpg(x, y)), // DCMPG
+        FCMPL => one(compare::<f32>(a, b, Unordered::Less)),
+        FCMPG => one(compare::<f32>(a, b, Unordered::Greater)),
+        DCMPL => one(compare::<f64>(x, y, Unordered::Less)),
+        _ => one(compare::<f64>(x, y, Unordered::Greater)), // DCMPG
     }
 }

@@ -5,11 +5,12 @@ ghost use Rattle.effects.specs.Effects.{effect_at};
 ghost use Rattle.effects.specs.Families.{conversion_opcodes};
 
 use crate::outcome::{Effect, one, split};
-use conversions::{d2f, d2i, d2l, f2d, f2i, f2l, i2d, i2f, l2d, l2f};
+use conversions::{d2f, f2d, of_int, to_int};
 use instructions::opcodes::*;
 use integers::{i2b, i2c, i2l, i2s, join_words, l2i};
 
 // I2L to I2S.
+#[tactic(auto, unfolding(crate::specs::Effects::effect_at, rules::specs::Instructions::row_of))]
 pub(crate) fn conversion_effect(op: u8, a: u32, b: u32) -> Effect
     requires { is_in conversion_opcodes op ≡ true }
     ensures { (constant c d : ℕ) → result ≡ effect_at op constant a b c d }
@@ -17,16 +18,16 @@ pub(crate) fn conversion_effect(op: u8, a: u32, b: u32) -> Effect
     let x = join_words(a, b);
     match op {
         I2L => split(i2l(a)),
-        I2F => one(i2f(a)),
-        I2D => split(i2d(a)),
+        I2F => one(of_int::<u32, f32>(a)),
+        I2D => split(of_int::<u32, f64>(a)),
         L2I => one(l2i(x)),
-        L2F => one(l2f(x)),
-        L2D => split(l2d(x)),
-        F2I => one(f2i(a)),
-        F2L => split(f2l(a)),
+        L2F => one(of_int::<u64, f32>(x)),
+        L2D => split(of_int::<u64, f64>(x)),
+        F2I => one(to_int::<f32, u32>(a)),
+        F2L => split(to_int::<f32, u64>(a)),
         F2D => split(f2d(a)),
-        D2I => one(d2i(x)),
-        D2L => split(d2l(x)),
+        D2I => one(to_int::<f64, u32>(x)),
+        D2L => split(to_int::<f64, u64>(x)),
         D2F => one(d2f(x)),
         I2B => one(i2b(a)),
         I2C => one(i2c(a)),

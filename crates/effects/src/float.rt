@@ -1,24 +1,87 @@
-// Float arithmetic (JVMS 2.11.3).
-ghost use Rattle.std.specs.Prelude.{◌≡◌, true, ℕ};
+// Float and double arithmetic (JVMS 2.11.3), over the format.
+ghost use Rattle.std.specs.Prelude.{◌≡◌, true, ℕ, List};
+ghost use Rattle.values.specs.Kinds.{Kind, float, double};
+ghost use Rattle.values.specs.Words.{words_of};
+ghost use Rattle.rules.specs.Forms.{pushes};
 ghost use Rattle.instructions.specs.Table.{is_in};
-ghost use Rattle.effects.specs.Effects.{effect_at};
-ghost use Rattle.effects.specs.Families.{float_opcodes};
+ghost use Rattle.effects.specs.Effects.{effect_of, effect_at};
+ghost use Rattle.effects.specs.Families.{float_opcodes, double_opcodes};
+ghost use Rattle.effects.specs.Floats.{float_result, first_of, second_of, IsResult, of_floats, of_doubles};
 
-use crate::outcome::{Effect, one};
-use floats::{fadd, fdiv, fmul, fneg, frem, fsub};
+use crate::outcome::{Effect, one, split};
+use conversions::Format;
+use floats::{Arithmetic, add, div, mul, neg, rem, sub};
 use instructions::opcodes::*;
+use integers::join_words;
 
-// FADD to FNEG.
-pub(crate) fn float_effect(op: u8, a: u32, b: u32) -> Effect
-    requires { is_in float_opcodes op ≡ true }
-    ensures { (constant c d : ℕ) → result ≡ effect_at op constant a b c d }
+// A format by how its values lie on the operand stack, and by its opcodes.
+pub(crate) trait OnStack: Arithmetic {
+    ghost kind: { Kind };
+
+    ghost opcodes: { List ℕ };
+
+    // The two values that words are, lowest first.
+    fn popped(a: u32, b: u32, c: u32, d: u32) -> (Self::Word, Self::Word)
+        ensures first { Self.Word.number result.0 ≡ first_of kind a b c d }
+        ensures second { Self.Word.number result.1 ≡ second_of kind a b c d };
+
+    fn pushed(word: Self::Word) -> Effect
+        ensures { result ≡ effect_of (pushes (words_of kind (Self.Word.number word))) };
+
+    ghost results: { (op : ℕ) → is_in opcodes op ≡ true → IsResult kind Self.format Self.Word.below op };
+}
+
+impl OnStack for f32 {
+    ghost kind = { float };
+
+    ghost opcodes = { float_opcodes };
+
+    ghost results = { of_floats };
+
+    fn popped(a: u32, b: u32, _c: u32, _d: u32) -> (u32, u32) {
+        (a, b)
+    }
+
+    fn pushed(word: u32) -> Effect {
+        one(word)
+    }
+}
+
+impl OnStack for f64 {
+    ghost kind = { double };
+
+    ghost opcodes = { double_opcodes };
+
+    ghost results = { of_doubles };
+
+    fn popped(a: u32, b: u32, c: u32, d: u32) -> (u64, u64) {
+        (join_words(a, b), join_words(c, d))
+    }
+
+    fn pushed(word: u64) -> Effect {
+        split(word)
+    }
+}
+
+// The result of an opcode, of two values.
+fn float_result<F: Arithmetic>(op: u8, x: F::Word, y: F::Word) -> F::Word
+    ensures { F.Word.number result ≡ float_result F.format F.Word.below op (F.Word.number x) (F.Word.number y) }
 {
     match op {
-        FADD => one(fadd(a, b)),
-        FSUB => one(fsub(a, b)),
-        FMUL => one(fmul(a, b)),
-        FDIV => one(fdiv(a, b)),
-        FREM => one(frem(a, b)),
-        _ => one(fneg(a)), // FNEG
+        FADD | DADD => add::<F>(x, y),
+        FSUB | DSUB => sub::<F>(x, y),
+        FMUL | DMUL => mul::<F>(x, y),
+        FDIV | DDIV => div::<F>(x, y),
+        FREM | DREM => rem::<F>(x, y),
+        _ => neg::<F>(x), // FNEG, DNEG
     }
+}
+
+// FADD to FNEG, or DADD to DNEG.
+pub(crate) fn float_effect<F: OnStack>(op: u8, a: u32, b: u32, c: u32, d: u32) -> Effect
+    requires { is_in F.opcodes op ≡ true }
+    ensures { (constant : ℕ) → result ≡ effect_at op constant a b c d }
+{
+    let (x, y) = F::popped(a, b, c, d);
+    F::pushed(float_result::<F>(op, x, y))
 }

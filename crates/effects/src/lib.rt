@@ -7,7 +7,6 @@ mod choice;
 mod comparisons;
 mod constants;
 mod conversion;
-mod double;
 mod float;
 mod moves;
 mod outcome;

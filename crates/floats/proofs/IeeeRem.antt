@@ -12,7 +12,7 @@ use lib.Ieee.Exact.{HasValue, round_exact}
 use borrow.Author.Tests.{ltb-true, ltb-false, leb-true, leb-false, eqb-true, eqb-false, ne_eqb}
 use Rattle.conversions.proofs.Powers.{twice_highest}
 use Rattle.conversions.proofs.RoundedBits.{to_bits_nan, exact_bits, rescaled, emax_pos}
-use Rattle.conversions.proofs.Fields.{lead, place, place_is, lead_is, lead_lt, fields_value, fields_inf, bits_nan}
+use Rattle.conversions.proofs.Fields.{lead, place, place_is, lead_is, lead_lt, field_top, fields_value, fields_inf, bits_nan}
 use Rattle.floats.specs.Remainder.{digits_of, place_of, units_of, IsWordOf}
 use Rattle.floats.proofs.NaNs.{nan_word}
 use Rattle.floats.proofs.UnitWords.{low_digits, high_digits, digits_pos, scaled}
@@ -198,14 +198,7 @@ module _ (f : Format) where
 
   -- the exponent's field is all ones
   all_ones : (w : ℕ) → ones f * hid f ≤ w → w < top f → w / hid f ≡ ones f
-  all_ones w l h =
-      let p = pow_pos (prec f - 1) in
-      let lo : ones f ≤ w / hid f = (le-div_iff_mul-le p).1 l in
-      let hi : w / hid f < suc (ones f) = (div-lt_iff_lt-mul p).1 (subst (λ (n : ℕ). w < n) (mul_comm (hid f) (suc (ones f))) h) in
-      between (w / hid f) (ones f) lo hi
-    where
-      between : (x o : ℕ) → o ≤ x → x < suc o → x ≡ o
-      between x o l h = omega arith
+  all_ones w l h = field_top f w h ((le-div_iff_mul-le (pow_pos (prec f - 1))).1 l)
 
   top_pos : 0 < top f
   top_pos = mul-pos (pow_pos (prec f - 1)) (omega arith)

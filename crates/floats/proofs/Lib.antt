@@ -1,4 +1,5 @@
 pub mod NaNs
+pub mod Orders
 pub mod Flipped
 pub mod UnitWords
 pub mod IeeeRem

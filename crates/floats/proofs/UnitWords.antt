@@ -4,8 +4,18 @@ use Rattle.std.proofs.Math.Nat.{mul_assoc, mul_comm, mul-le-mul, mul-lt-mul_of_p
 use Rattle.std.proofs.Math.Arith.{mod-mul}
 use Rattle.std.proofs.Math.Pow.{pow-add, pow_pos}
 use Rattle.std.proofs.lemmas.Nat.{mul-mod_first}
+use lib.Dec.{lit≤}
+use lib.Ieee.{Format, binary32, binary64, prec, hid}
 use borrow.Author.Tests.{ltb-true, ltb-false, lt-ltb, le-ltb}
 use Rattle.floats.specs.Remainder.{digits_of, place_of, units_of, IsWordOf}
+
+-- ---- what the exponent's field counts in
+pub hid_pos : (f : Format) → 0 < hid f
+hid_pos f = pow_pos (prec f - 1)
+
+pub hid_le : (f : Format) → hid f ≤ 2 ^ 52
+hid_le binary32 = lit≤ tt
+hid_le binary64 = lit≤ tt
 
 -- ---- a remainder of digits that are moved up
 
@@ -39,6 +49,15 @@ doubled m p i h =
   where
     one_less : (p i : ℕ) → i < p → 1 + (p - (i + 1)) ≡ p - i
     one_less p i h = omega arith
+
+-- digits that are moved up all the way
+pub in_place : (hidden moved i p units : ℕ) → p ≤ i → moved * 2 ^ (p - i) ≡ units → moved < 2 * hidden → IsWordOf hidden units moved
+in_place hidden moved i p units h e l =
+    let none : 0 ≡ p - i = omega arith in
+    record { digits = moved; place = 0; value = ap (λ (x : ℕ). moved * 2 ^ x) none ∙ e; few = l; leading = inl refl; written = sums moved hidden }
+  where
+    sums : (m h : ℕ) → m ≡ 0 * h + m
+    sums m h = omega arith
 
 module _ (hidden a : ℕ) (some : 0 < hidden) where
   pub low_digits : a < hidden → digits_of hidden a ≡ a

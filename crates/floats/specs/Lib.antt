@@ -1,1 +1,3 @@
+pub mod Operators
 pub mod Remainder
+pub mod Unordered

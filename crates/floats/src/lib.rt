@@ -1,10 +1,11 @@
-// Arithmetic and comparison of floats and doubles as words (JVMS 2.8, 2.11.3): a function for each instruction, named by its mnemonic.
+// Arithmetic and comparison of floats and doubles as words (JVMS 2.8, 2.11.3): a function for each operation, over the format, f32 or f64.
 #![tactic(auto)]
 
-mod double;
+mod arithmetic;
+mod machine;
 mod order;
 mod remainder;
-mod single;
 
-pub use double::{dadd, dcmpg, dcmpl, ddiv, dmul, dneg, drem, dsub};
-pub use single::{fadd, fcmpg, fcmpl, fdiv, fmul, fneg, frem, fsub};
+pub use arithmetic::{add, div, mul, neg, rem, sub};
+pub use machine::Arithmetic;
+pub use order::{Unordered, compare};

@@ -3,8 +3,9 @@ use mathlib.Core.Path.{◌≡◌, sym, ap, ◌∙◌, subst}
 use Prim.Native.Nat.{ℕ, ◌+◌, ◌-◌, ◌*◌, ◌^◌, ◌≤◌, min}
 use native.Mathlib.Nat.{le_of_lt, min-eq_left, min-eq_right}
 use native.Mathlib.Omega.{arith}
-use Rattle.conversions.proofs.Narrowing.{Narrow, narrow_zero, narrow_subnormal, narrow_normal, narrow_inf, subnormal_le, normal_le}
+use Rattle.conversions.proofs.Narrowing.{Narrow, narrow_zero, narrow_subnormal, narrow_normal, narrow_inf, subnormal_le}
 use Rattle.conversions.proofs.float_to_float.narrowed.Goals as goal
+use Rattle.conversions.proofs.float_to_float.narrowed.Goals.{After-nearest_quotient-then-exponent-lt1152}
 
 pub returns-then-exponent-lt863 : goal.returns-then-exponent-lt863
 returns-then-exponent-lt863 c = narrow_zero c.args.exponent c.args.digits c.if-exponent-lt863.true c.requires.1
@@ -17,22 +18,11 @@ pub returns-then-exponent-lt897 : goal.returns-then-exponent-lt897
 returns-then-exponent-lt897 c = let at = c.before.before.before in
     c.nearest_quotient.ensures ∙ narrow_subnormal at.args.exponent at.args.digits c.if-exponent-lt863.false (omega arith) at.requires.1 c.if-exponent-lt897.true
 
-small : (c : goal.After-nearest_quotient-then-exponent-lt1152) → c.nearest_quotient-then-exponent-lt1152.result ≤ 2 ^ 24
-small c =
-    let at = c.before.before.before.before in
-    subst (λ (q : ℕ). q ≤ 2 ^ 24) (sym c.nearest_quotient-then-exponent-lt1152.ensures) (normal_le at.args.digits at.requires.1)
-
-pub overflow_cast-word-then-exponent-lt1152 : goal.overflow_cast-word-then-exponent-lt1152
-overflow_cast-word-then-exponent-lt1152 c = omega (arith, small c)
-
-pub overflow_add-word : goal.overflow_add-word
-overflow_add-word c = omega (arith, small c)
-
 -- the exponent and the rounded digits as one number, up to the infinity
-abbrev Capped : goal.After-nearest_quotient-then-exponent-lt1152 → ℕ → ℕ
+abbrev Capped : After-nearest_quotient-then-exponent-lt1152 → ℕ → ℕ
 Capped c q = min ((c.args.exponent - 897) * 2 ^ 23 + q) (255 * 2 ^ 23)
 
-capped : (c : goal.After-nearest_quotient-then-exponent-lt1152) → Capped c c.nearest_quotient-then-exponent-lt1152.result ≡ Narrow c.args.exponent c.args.digits
+capped : (c : After-nearest_quotient-then-exponent-lt1152) → Capped c c.nearest_quotient-then-exponent-lt1152.result ≡ Narrow c.args.exponent c.args.digits
 capped c =
     let at = c.before.before.before.before in
     ap (Capped c) c.nearest_quotient-then-exponent-lt1152.ensures

@@ -35,17 +35,8 @@ up_to_53 c = moved (Digits c) (positive c) c.requires.1
 whole_shift : (c : goal.Else-digits-eq0) → MovedUp c % 2 ^ 64 ≡ MovedUp c
 whole_shift c = mod-eq_of_lt (lt_of_lt_of_le (up_to_53 c).hi (lit≤ tt))
 
-pub overflow_sub-result : goal.overflow_sub-result
-overflow_sub-result c = omega (arith, (up_to_53 c).few)
-
 pub overflow_sub-result-2 : goal.overflow_sub-result-2
 overflow_sub-result-2 c = omega (arith, (up_to_53 c).many)
-
-pub overflow_cast-result-2 : goal.overflow_cast-result-2
-overflow_cast-result-2 c = omega (arith, (up_to_53 c).few)
-
-pub overflow_shl-result : goal.overflow_shl-result
-overflow_shl-result c = omega (arith, (up_to_53 c).few)
 
 pub overflow_add-result-2 : goal.overflow_add-result-2
 overflow_add-result-2 c = omega (arith, whole_shift c, (up_to_53 c).hi)

@@ -2,12 +2,8 @@
 use mathlib.Core.Path.{◌∙◌}
 use native.Mathlib.Nat.{mod-eq_of_lt, lt_of_lt_of_le}
 use lib.Dec.{lit≤}
-use lib.Count.{leading_le}
 use Rattle.conversions.proofs.WholePart.{scaled_down, scaled_away, scaled_lt, scaled_up, scaled_over}
 use Rattle.conversions.proofs.float_to_int.scaled.Goals as goal
-
-pub overflow_shl-result : goal.overflow_shl-result
-overflow_shl-result c = lt_of_lt_of_le c.if-up-down-2.true (leading_le 64 c.args.m)
 
 pub returns-then-down-up-lt64 : goal.returns-then-down-up-lt64
 returns-then-down-up-lt64 c = let at = c.before.before in

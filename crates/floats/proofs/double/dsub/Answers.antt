@@ -1,5 +1,0 @@
--- `dsub` meets its contract: what the converters and the operation between them give. Assumes nothing.
-use Rattle.floats.proofs.double.dsub.Goals as goal
-
-pub returns : goal.returns
-returns c = cc

@@ -1,5 +1,0 @@
--- `fadd` meets its contract: what the converters and the operation between them give. Assumes nothing.
-use Rattle.floats.proofs.single.fadd.Goals as goal
-
-pub returns : goal.returns
-returns c = cc

@@ -1,7 +1,0 @@
--- `fcmpl` meets its contract: the three tests at what the words mean. Assumes nothing.
-use Rattle.values.specs.Integers.{signed}
-use Rattle.floats.proofs.single.fcmpl.Goals as goal
-
-pub returns : goal.returns
-unfolding signed
-returns c = cc

@@ -1,5 +1,0 @@
--- `fdiv` meets its contract: what the converters and the operation between them give. Assumes nothing.
-use Rattle.floats.proofs.single.fdiv.Goals as goal
-
-pub returns : goal.returns
-returns c = cc

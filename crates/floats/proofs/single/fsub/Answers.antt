@@ -1,5 +1,0 @@
--- `fsub` meets its contract: what the converters and the operation between them give. Assumes nothing.
-use Rattle.floats.proofs.single.fsub.Goals as goal
-
-pub returns : goal.returns
-returns c = cc
