@@ -1,14 +1,16 @@
 -- One turn of each loop, on what the called functions gave. Assumes nothing.
 use Prim.Native.Nat.{ℕ, suc, ◌+◌, ◌-◌, ◌≤◌, ◌<◌}
 use mathlib.Core.Path.{◌≡◌, refl, sym, ap, ◌∙◌}
-use mathlib.Core.Bool.{true, false, ◌||◌, cond}
+use Rattle.std.specs.Prelude.{Option, Some, None}
+use mathlib.Core.Bool.{Bool, true, false, not, ◌||◌, cond}
+use Rattle.std.specs.Option.{option_eq}
 use mathlib.Core.List.{List}
 use mathlib.Core.Logic.{⊎_elim}
 use native.Mathlib.Omega.{arith}
 use native.Mathlib.Nat.{zero-add, add-zero, add_assoc}
 use lib.Dec.{eqb}
 use lib.ListN.{length}
-use borrow.Author.Tests.{eqb-true}
+use borrow.Author.Tests.{eqb-true, eqb-false, eq-eqb, ne_eqb}
 use Rattle.values.specs.Kinds.{Kind, int, long, float, double, reference, any, places, places_of}
 use Rattle.rules.specs.Fetch.{u8}
 use Rattle.rules.specs.Descriptor.{double_type, float_type, long_type, class_type, array_type, slash, semicolon, character_at, brackets_end, field_end, kind_of, parameter_kinds, parameters_end}
@@ -18,13 +20,58 @@ use Rattle.rules.proofs.Characters.{character_stands}
 use Rattle.rules.proofs.Names.{name_from, name_ended, name_goes_on}
 use Rattle.rules.proofs.Fields.{one_bracket, field_forward}
 use Rattle.rules.proofs.Descriptor.{no_more, kinds_at, fields_at, all_parameters, next_field}
-use Rattle.descriptor.specs.Answers.{Counted}
+use Rattle.descriptor.specs.Answers.{some_offset, Counted}
+
+-- ---- an offset, if there is one
+
+pub offset_there : (m n : ℕ) → Some m ≡ some_offset n → (m ≡ n) × (0 < n)
+offset_there m n = go (eqb n 0) refl
+  where
+    go : (t : Bool) → eqb n 0 ≡ t → Some m ≡ cond t None (Some n) → (m ≡ n) × (0 < n)
+    go true e f = cc
+    go false e f = (cc, omega (arith, eqb-false n 0 e))
+
+pub no_offset : (n : ℕ) → None ≡ some_offset n → n ≡ 0
+no_offset n = go (eqb n 0) refl
+  where
+    go : (t : Bool) → eqb n 0 ≡ t → None ≡ cond t None (Some n) → n ≡ 0
+    go true e f = eqb-true n 0 e
+    go false e f = cc
+
+pub some_there : (m n : ℕ) → m ≡ n → 0 < m → Some m ≡ some_offset n
+some_there m n e h = let z : n ≡ 0 → ⊥ = λ f. omega arith in rw (ne_eqb n 0 z, e)
+
+pub none_there : (n : ℕ) → n ≡ 0 → None ≡ some_offset n
+none_there n e = rw e
+
+-- what `!=` answers at two of them
+pub same_offset : (x y : Option ℕ) → true ≡ not (option_eq eqb x y) → x ≡ y → ⊥
+same_offset None None h e = cc
+same_offset None (Some n) h e = cc
+same_offset (Some m) None h e = cc
+same_offset (Some m) (Some n) h e = let t : eqb m n ≡ true = eq-eqb m n cc in cc
+
+pub other_offset : (x y : Option ℕ) → false ≡ not (option_eq eqb x y) → x ≡ y
+other_offset None None h = refl
+other_offset None (Some n) h = cc
+other_offset (Some m) None h = cc
+other_offset (Some m) (Some n) h = ap Some (eqb-true m n (go (eqb m n) h))
+  where
+    go : (t : Bool) → false ≡ not t → t ≡ true
+    go true h = refl
+    go false h = cc
 
 -- ---- a character of a name
 
-module _ (d : List ℕ) (at size : ℕ) (gave : size ≡ character_at d at) (some : 0 < size) where
+module _ (d : List ℕ) (at size : ℕ) (found : Some size ≡ some_offset (character_at d at)) where
+  gave : size ≡ character_at d at
+  gave = (offset_there size (character_at d at) found).0
+
   there : 0 < character_at d at
-  there = rw gave at some
+  there = (offset_there size (character_at d at) found).1
+
+  some : 0 < size
+  some = rw (← gave) at there
 
   pub next_within : at + size ≤ length d
   next_within = rw gave (character_stands d at there).2.within
@@ -35,7 +82,7 @@ module _ (d : List ℕ) (at size : ℕ) (gave : size ≡ character_at d at) (som
   pub goes_on : (u8 d (at + size) ≡ semicolon → ⊥) → (next : ℕ) → next ≡ cond (eqb (u8 d (at + size)) slash) (at + size + 1) (at + size)
       → (at < next) × (next ≤ length d) × (name_from d next ≡ name_from d at)
   goes_on e next f =
-      let (a, b) = cases Within (eqb (u8 d (at + size)) slash) (at + size + 1) (at + size) (λ t. omega (arith, inside d (at + size) (omega (arith, eqb-true (u8 d (at + size)) slash t)))) (λ _. omega (arith, next_within)) in
+      let (a, b) = cases Within (eqb (u8 d (at + size)) slash) (at + size + 1) (at + size) (λ t. omega (arith, some, inside d (at + size) (omega (arith, eqb-true (u8 d (at + size)) slash t)))) (λ _. omega (arith, some, next_within)) in
       (rw f a, rw f b, rw (f, gave) (sym (name_goes_on d at there (rw (← gave) e))))
     where
       Within : ℕ → Type 0
@@ -43,16 +90,15 @@ module _ (d : List ℕ) (at size : ℕ) (gave : size ≡ character_at d at) (som
 
 -- ---- a bracket
 
-module _ (d : List ℕ) (at n : ℕ) (bracket : u8 d at ≡ array_type) where
-  pub bracket_within : at + 1 ≤ length d
-  bracket_within = omega (arith, inside d at (omega arith))
+module _ (d : List ℕ) (start at : ℕ) where
+  pub bracket_passed : start ≤ at → at < start + 255 → u8 d at ≡ array_type → brackets_end (255 - (at + 1 - start)) d (at + 1) ≡ brackets_end (255 - (at - start)) d at
+  bracket_passed g h bracket =
+      let e : 255 - (at - start) ≡ suc (255 - (at + 1 - start)) = omega arith in
+      sym (ap (λ (k : ℕ). brackets_end k d at) e ∙ one_bracket d (255 - (at + 1 - start)) at bracket)
 
-  pub bracket_passed : n < 255 → brackets_end (255 - (n + 1)) d (at + 1) ≡ brackets_end (255 - n) d at
-  bracket_passed h = let e : 255 - n ≡ suc (255 - (n + 1)) = omega arith in sym (ap (λ (k : ℕ). brackets_end k d at) e ∙ one_bracket d (255 - (n + 1)) at bracket)
-
-pub brackets_done : (d : List ℕ) (at n : ℕ) → 255 ≤ n → at ≡ brackets_end (255 - n) d at
-unfolding brackets_end
-brackets_done d at n h = let e : 255 - n ≡ 0 = omega arith in rw e
+  pub brackets_done : at ≡ start + 255 → brackets_end (255 - (at - start)) d at ≡ start + 255
+  unfolding brackets_end
+  brackets_done h = let e : 255 - (at - start) ≡ 0 = omega arith in rw e h
 
 -- ---- the places of a field type
 
@@ -90,12 +136,15 @@ module _ (d : List ℕ) where
   counting_starts h = let (k, e) = all_parameters d in record { within = h; end_ahead = e; places_ahead = zero-add _ ∙ ap places_of k }
 
   module _ (at n : ℕ) (before : Counting d at n) where
-    module _ (next p : ℕ) (gave : next ≡ field_end d at) (some : 0 < next) (takes : p ≡ places (kind_of (u8 d at))) where
+    module _ (next p : ℕ) (found : Some next ≡ some_offset (field_end d at)) (takes : p ≡ places (kind_of (u8 d at))) where
+      next_is : next ≡ field_end d at
+      next_is = (offset_there next (field_end d at) found).0
+
       there_is : 0 < field_end d at
-      there_is = rw gave at some
+      there_is = (offset_there next (field_end d at) found).1
 
       pub forward : (at < next) × (next ≤ length d)
-      forward = rw gave (field_forward d at there_is)
+      forward = rw next_is (field_forward d at there_is)
 
       pub two_at_most : p ≤ 2
       two_at_most = rw takes (at_most_two (kind_of (u8 d at)))
@@ -105,17 +154,18 @@ module _ (d : List ℕ) where
           let (k, e) = next_field d at there_is in
           record {
             within = forward.1;
-            end_ahead = rw gave (sym e ∙ before.end_ahead);
-            places_ahead = rw (gave, takes) (add_assoc n (places (kind_of (u8 d at))) (places_of (kinds_at d (field_end d at))) ∙ ap (λ (x : List Kind). n + places_of x) (sym k) ∙ before.places_ahead);
+            end_ahead = rw next_is (sym e ∙ before.end_ahead);
+            places_ahead = rw (next_is, takes) (add_assoc n (places (kind_of (u8 d at))) (places_of (kinds_at d (field_end d at))) ∙ ap (λ (x : List Kind). n + places_of x) (sym k) ∙ before.places_ahead);
           }
 
-    pub counted : n ≤ 255 → field_end d at ≡ 0 → Counted d at n
+    pub counted : n ≤ 255 → None ≡ some_offset (field_end d at) → Counted d (Some (record { end = at; places = n }))
     counted h e =
-        let (k, f) = no_more d (length d - at) at e in
+        let (k, f) = no_more d (length d - at) at (no_offset (field_end d at) e) in
         record {
-          few = λ _. (sym f ∙ before.end_ahead, sym (add-zero n) ∙ ap (λ (x : List Kind). n + places_of x) (sym k) ∙ before.places_ahead);
-          many = λ m. absurd (omega arith);
+          end_there = sym f ∙ before.end_ahead;
+          all_places = sym (add-zero n) ∙ ap (λ (x : List Kind). n + places_of x) (sym k) ∙ before.places_ahead;
+          few = h;
         }
 
-    pub counted_over : 255 < n → Counted d at n
-    counted_over h = record { few = λ m. absurd (omega arith); many = λ _. omega (arith, before.places_ahead) }
+    pub counted_over : 255 < n → Counted d None
+    counted_over h = omega (arith, before.places_ahead)

@@ -1,21 +1,35 @@
--- What a descriptor answers, case by case; and that the answer is that of the grammar. Assumes nothing.
-use Rattle.std.specs.Prelude.{ℕ, ◌≤◌, ◌<◌, ◌≡◌, List, Ok, Err}
+-- What a descriptor says, and that the answer is that of the grammar. Assumes nothing.
+use Rattle.std.specs.Prelude.{ℕ, ◌≤◌, ◌<◌, ◌≡◌, Option, Some, None, cond, List, Ok, Err}
 use Rattle.values.specs.Kinds.{Kind, places_of}
-use Rattle.rules.specs.Check.{Check}
-use Rattle.rules.specs.Descriptor.{MethodDescriptor, parameter_kinds, parameters_end, return_type}
+use Rattle.rules.specs.Check.{Check, ◌>>◌, ◌=ⁿ◌}
+use Rattle.rules.specs.Descriptor.{MethodDescriptor, parameter_kinds, parameters_end, return_type, descriptor_check}
 use Rattle.descriptor.specs.declared.descriptors.Descriptor.{Descriptor}
-use Rattle.descriptor.specs.declared.descriptors.Descriptor.TheVariants.{Good, Refused}
+use Rattle.descriptor.specs.declared.descriptors.Parameters.{Parameters}
 
-abbrev pub descriptor_answer : List ℕ → Check (Unit {0}) → Descriptor
-descriptor_answer d (Ok t) = Good (places_of (parameter_kinds d)) (return_type d)
-descriptor_answer d (Err n) = Err n
+-- an offset, of which 0 says that nothing begins there (rules/specs/Descriptor)
+abbrev pub some_offset : ℕ → Option ℕ
+some_offset n = cond (n =ⁿ 0) None (Some n)
+
+-- what it says where it is one
+abbrev pub descriptor_of : List ℕ → Descriptor
+descriptor_of d = record { places = places_of (parameter_kinds d); return_type = return_type d }
+
+abbrev pub described : List ℕ → Check Descriptor
+described d = do
+  descriptor_check d
+  Ok (descriptor_of d)
 
 -- a good one is a method descriptor with these places and this return type; of a refused one there is no derivation
-abbrev pub Exact : List ℕ → Descriptor → Type 0
-Exact d (Good n t) = (ks : List Kind) × MethodDescriptor d ks t × (places_of ks ≡ n)
-Exact d (Err n) = (ks : List Kind) (t : ℕ) → MethodDescriptor d ks t → ⊥
+abbrev pub Exact : List ℕ → Check Descriptor → Type 0
+Exact d (Ok x) = (ks : List Kind) × MethodDescriptor d ks x.return_type × (places_of ks ≡ x.places)
+Exact d (Err r) = (ks : List Kind) (t : ℕ) → MethodDescriptor d ks t → ⊥
 
--- the parameters as they are counted: whole, or as far as they have more places than a method may have
-pub record Counted (d : List ℕ) (end n : ℕ) : Type 0 where
-  pub few : n ≤ 255 → (end ≡ parameters_end d) × (n ≡ places_of (parameter_kinds d))
-  pub many : 255 < n → 255 < places_of (parameter_kinds d)
+-- the parameters as they are read: whole, where they have no more places than a method may have
+pub record Whole (d : List ℕ) (p : Parameters) : Type 0 where
+  pub end_there : p.end ≡ parameters_end d
+  pub all_places : p.places ≡ places_of (parameter_kinds d)
+  pub few : p.places ≤ 255
+
+abbrev pub Counted : List ℕ → Option Parameters → Type 0
+Counted d (Some p) = Whole d p
+Counted d None = 255 < places_of (parameter_kinds d)

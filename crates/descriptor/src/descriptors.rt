@@ -1,20 +1,21 @@
 // The whole descriptor: ( parameters ) return, and nothing after it.
 ghost use Rattle.std.specs.Prelude.{◌≡◌, ◌≤◌, length};
-ghost use Rattle.rules.specs.Descriptor.{return_letter, return_end, descriptor_check};
-ghost use Rattle.descriptor.specs.Answers.{Counted, descriptor_answer, Exact};
+ghost use Rattle.rules.specs.Descriptor.{return_letter, return_end};
+ghost use Rattle.descriptor.specs.Answers.{Counted, Exact, described, some_offset};
 
 use crate::fields::{field_end, places_of};
 use crate::letters::{ARRAY, CLASS, CLOSING, OPENING, VOID};
 use operands::read_code_u8;
+use rules::Refusal;
 
-// A good descriptor, with the places of its parameters and its return type (B C D F I J L S V Z, L for every reference), or the number of its refusal.
+// What a descriptor says: the places of its parameters, and its return type (B C D F I J L S V Z, L for every reference).
 #[derive(Clone, Copy)]
-pub enum Descriptor {
-    Good { places: u32, return_type: u32 },
-    Refused(u32),
+pub struct Descriptor {
+    pub places: u32,
+    pub return_type: u32,
 }
 
-// The offset after the parameters, and their places: either all of them, or more than a method may have.
+// The offset after the parameters, and their places.
 #[derive(Clone, Copy)]
 struct Parameters {
     end: usize,
@@ -24,34 +25,30 @@ struct Parameters {
 // The parameters of a method have at most so many places.
 const PLACES: u32 = 255;
 
-// The number of a bad descriptor.
-const BAD_DESCRIPTOR: u32 = 31;
-
-// The parameters, from offset 1 on.
-fn read_parameters(d: &[u8]) -> Parameters
+// The parameters, from offset 1 on; none where they have more places than a method may have.
+fn read_parameters(d: &[u8]) -> Option<Parameters>
     requires { 1 ≤ length d.now }
-    ensures { Counted d.now result.end result.places }
+    ensures { Counted d.now result }
 {
     let mut at = 1;
     let mut places = 0;
     while places <= PLACES {
-        let next = field_end(d, at);
-        if next == 0 {
-            return Parameters { end: at, places };
-        }
+        let Some(next) = field_end(d, at) else {
+            return Some(Parameters { end: at, places });
+        };
         places += places_of(read_code_u8(d, at));
         at = next;
     }
-    Parameters { end: at, places }
+    None
 }
 
-// The offset after the return descriptor; 0 where none begins.
-fn return_end(d: &[u8], at: usize) -> usize
+// The offset after the return descriptor, if one begins there.
+fn return_end(d: &[u8], at: usize) -> Option<usize>
     requires { at ≤ length d.now }
-    ensures { result ≡ return_end d.now at }
+    ensures { result ≡ some_offset (return_end d.now at) }
 {
     if read_code_u8(d, at) == VOID {
-        return at + 1;
+        return Some(at + 1);
     }
     field_end(d, at)
 }
@@ -61,32 +58,31 @@ fn return_letter(first: u8) -> u32
     ensures { result ≡ return_letter first }
 {
     if first == ARRAY {
-        return CLASS as u32;
+        return u32::from(CLASS);
     }
-    first as u32
+    u32::from(first)
 }
 
 // Whether these bytes are a method descriptor, and what it says.
-pub fn read_descriptor(d: &[u8]) -> Descriptor
-    ensures value { result ≡ descriptor_answer d.now (descriptor_check d.now) }
+pub fn read_descriptor(d: &[u8]) -> Result<Descriptor, Refusal>
+    ensures value { result ≡ described d.now }
     ensures exact { Exact d.now result }
 {
     if read_code_u8(d, 0) != OPENING {
-        return Descriptor::Refused(BAD_DESCRIPTOR);
+        return Err(Refusal::Descriptor);
     }
-    let p = read_parameters(d);
-    let end = p.end;
-    if PLACES < p.places {
-        return Descriptor::Refused(BAD_DESCRIPTOR);
+    let Some(p) = read_parameters(d) else {
+        return Err(Refusal::Descriptor);
+    };
+    if read_code_u8(d, p.end) != CLOSING {
+        return Err(Refusal::Descriptor);
     }
-    if read_code_u8(d, end) != CLOSING {
-        return Descriptor::Refused(BAD_DESCRIPTOR);
+    let start = p.end + 1;
+    if return_end(d, start) != Some(d.len()) {
+        return Err(Refusal::Descriptor);
     }
-    if return_end(d, end + 1) != d.len() {
-        return Descriptor::Refused(BAD_DESCRIPTOR);
-    }
-    Descriptor::Good {
+    Ok(Descriptor {
         places: p.places,
-        return_type: return_letter(read_code_u8(d, end + 1)),
-    }
+        return_type: return_letter(read_code_u8(d, start)),
+    })
 }

@@ -2,6 +2,7 @@
 ghost use Rattle.std.specs.Prelude.{◌≡◌, ◌≤◌, length};
 ghost use Rattle.values.specs.Kinds.{places};
 ghost use Rattle.rules.specs.Descriptor.{is_base, brackets_end, element_end, field_end, kind_of};
+ghost use Rattle.descriptor.specs.Answers.{some_offset};
 
 use crate::letters::{ARRAY, BOOLEAN, BYTE, CHAR, CLASS, DOUBLE, FLOAT, INT, LONG, SHORT};
 use crate::names::name_end;
@@ -29,37 +30,33 @@ fn brackets_end(d: &[u8], start: usize) -> usize
     requires { start ≤ length d.now }
     ensures { result ≡ brackets_end 255 d.now start }
 {
-    let mut at = start;
-    let mut n = 0;
-    while n < DIMENSIONS {
+    for at in start..start + DIMENSIONS {
         if read_code_u8(d, at) != ARRAY {
             return at;
         }
-        at += 1;
-        n += 1;
     }
-    at
+    start + DIMENSIONS
 }
 
-// The offset after a base type or a class; 0 where neither begins.
-fn element_end(d: &[u8], at: usize) -> usize
+// The offset after a base type or a class, if one begins there.
+fn element_end(d: &[u8], at: usize) -> Option<usize>
     requires { at ≤ length d.now }
-    ensures { result ≡ element_end d.now at }
+    ensures { result ≡ some_offset (element_end d.now at) }
 {
     let first = read_code_u8(d, at);
     if is_base(first) {
-        return at + 1;
+        return Some(at + 1);
     }
     if first == CLASS {
         return name_end(d, at + 1);
     }
-    0
+    None
 }
 
-// The offset after a field type; 0 where none begins.
-pub(crate) fn field_end(d: &[u8], at: usize) -> usize
+// The offset after a field type, if one begins there.
+pub(crate) fn field_end(d: &[u8], at: usize) -> Option<usize>
     requires { at ≤ length d.now }
-    ensures { result ≡ field_end d.now at }
+    ensures { result ≡ some_offset (field_end d.now at) }
 {
     element_end(d, brackets_end(d, at))
 }

@@ -3,6 +3,7 @@ ghost use Rattle.std.specs.Prelude.{◌≡◌, cond, ◌+◌, ◌≤◌, length}
 ghost use Rattle.rules.specs.Check.{◌=ⁿ◌};
 ghost use Rattle.rules.specs.Fetch.{u8};
 ghost use Rattle.rules.specs.Descriptor.{slash, is_of_names, continues, is_one_byte, is_two_bytes, is_three_bytes, character_size, character_at, name_end};
+ghost use Rattle.descriptor.specs.Answers.{some_offset};
 
 use crate::letters::{ARRAY, DOT, SEMICOLON, SLASH};
 use operands::read_code_u8;
@@ -42,26 +43,26 @@ fn is_three_bytes(a: u8, b: u8, c: u8) -> bool
     (((a == 0xE0) & (0xA0 <= b)) | ((0xE1 <= a) & (a <= 0xEF))) & continues(b) & continues(c)
 }
 
-// How many of three bytes are a character of a name; 0 where none begins there.
-fn character_size(a: u8, b: u8, c: u8) -> usize
-    ensures { result ≡ character_size a b c }
+// How many of three bytes are a character of a name, if one begins there.
+fn character_size(a: u8, b: u8, c: u8) -> Option<usize>
+    ensures { result ≡ some_offset (character_size a b c) }
 {
     if is_one_byte(a) {
-        return 1;
+        return Some(1);
     }
     if is_two_bytes(a, b) {
-        return 2;
+        return Some(2);
     }
     if is_three_bytes(a, b, c) {
-        return 3;
+        return Some(3);
     }
-    0
+    None
 }
 
-// How many bytes the character at an offset has.
-fn character_at(d: &[u8], at: usize) -> usize
+// How many bytes the character at an offset has, if one begins there.
+fn character_at(d: &[u8], at: usize) -> Option<usize>
     requires { at ≤ length d.now }
-    ensures { result ≡ character_at d.now at }
+    ensures { result ≡ some_offset (character_at d.now at) }
 {
     let a = read_code_u8(d, at);
     let b = read_code_u8(d, at + 1);
@@ -80,22 +81,19 @@ fn past_slash(d: &[u8], at: usize) -> usize
     at
 }
 
-// The offset after a class name and its semicolon; 0 where none begins.
-pub(crate) fn name_end(d: &[u8], start: usize) -> usize
+// The offset after a class name and its semicolon, if one begins there. Characters differ in length, so an offset goes from one to the next.
+pub(crate) fn name_end(d: &[u8], start: usize) -> Option<usize>
     requires { start ≤ length d.now }
-    ensures { result ≡ name_end (length d.now) d.now start }
+    ensures { result ≡ some_offset (name_end (length d.now) d.now start) }
 {
     let mut at = start;
     while at < d.len() {
-        let size = character_at(d, at);
-        if size == 0 {
-            return 0;
-        }
+        let size = character_at(d, at)?;
         let next = at + size;
         if read_code_u8(d, next) == SEMICOLON {
-            return next + 1;
+            return Some(next + 1);
         }
         at = past_slash(d, next);
     }
-    0
+    None
 }

@@ -1,6 +1,5 @@
 -- `read_parameters` meets its contract. The loop's invariant: the places counted and those ahead are all. Assumes nothing.
-use Prim.Native.Nat.{◌-◌}
-use lib.ListN.{length}
+use Rattle.std.proofs.Common.{◌-◌, length}
 use Rattle.descriptor.proofs.Turns.{Counting}
 use Rattle.descriptor.proofs.descriptors.read_parameters.Given as goal
 

@@ -1,13 +1,14 @@
 -- `element_end` meets its contract. Assumes nothing.
-use native.Mathlib.Omega.{arith}
+use Rattle.std.proofs.Common.{arith}
 use borrow.Author.Tests.{eq-eqb, ne_eqb}
 use Rattle.rules.specs.Descriptor.{element_end}
 use Rattle.rules.proofs.Standing.{inside}
+use Rattle.descriptor.proofs.Turns.{some_there}
 use Rattle.descriptor.proofs.fields.element_end.Goals as goal
 
 pub returns-then-is_base : goal.returns-then-is_base
 unfolding element_end
-returns-then-is_base c = simp (← c.read_code_u8-first.ensures, ← c.is_base.ensures, c.if-is_base.true)
+returns-then-is_base c = some_there _ _ (simp (← c.read_code_u8-first.ensures, ← c.is_base.ensures, c.if-is_base.true)) (omega arith)
 
 pub name_end-requires : goal.name_end-requires
 name_end-requires c = omega (arith, inside c.args.d.now c.args.at (omega (arith, c.read_code_u8-first.ensures, c.if-first-eq-CLASS.true)))

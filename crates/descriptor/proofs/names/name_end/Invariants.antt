@@ -1,7 +1,5 @@
 -- `name_end` meets its contract. The loop's invariant: what is left to read gives what the whole name gives. Assumes nothing.
-use Prim.Native.Nat.{◌-◌, ◌≤◌}
-use mathlib.Core.Path.{◌≡◌}
-use lib.ListN.{length}
+use Rattle.std.proofs.Common.{◌≡◌, ◌-◌, ◌≤◌, length}
 use Rattle.rules.specs.Descriptor.{name_end}
 use Rattle.rules.proofs.Names.{name_from}
 use Rattle.descriptor.proofs.names.name_end.Given as goal
