@@ -16,7 +16,7 @@ pub enum Mark {
 // What has been read of a sheet: the last record's mark, the method's sizes, its parameters' places and its return type, both 0 without a descriptor,
 // where its code begins in the sheet and how long it is, the highest pool index used, where the handlers begin, which end at the AR record, and where the argument
 // words begin and how many there are.
-#[derive(Clone, Copy)]
+#[derive(Clone, Copy, Default)]
 pub struct Reading {
     pub last: Option<Mark>,
     pub max_stack: u16,

@@ -1,14 +1,12 @@
 // EX records: the handlers of the method (JVMS 4.7.3).
 ghost use Rattle.std.specs.Prelude.{◌≡◌, ◌+◌, ◌-◌, ◌≤◌, length};
 ghost use Rattle.rules.specs.declared.sheets.Mark.TheVariants.{EX};
-ghost use Rattle.rules.specs.Answers.{checked};
 ghost use Rattle.rules.specs.Sheet.{is_class_at, class_from, is_catch_type, contents_check, contents_read};
-ghost use Rattle.sheet.specs.Records.{record_answer};
 
-use crate::marks::{AFTER_EX, CONSTANT_CLASS};
-use crate::records::{Record, body_length};
+use crate::marks::CONSTANT_CLASS;
+use crate::records::body_length;
 use operands::{read_code_u8, read_code_u16};
-use rules::{Checked, Reading};
+use rules::{Mark, Reading, Refusal};
 
 // Whether a KI record is that of a class with this index.
 fn is_class_at(sheet: &[u8], at: usize, index: u16) -> bool
@@ -16,10 +14,7 @@ fn is_class_at(sheet: &[u8], at: usize, index: u16) -> bool
     ensures { result ≡ is_class_at sheet.now at index }
 {
     let body = at + 4;
-    if read_code_u16(sheet, body) != index {
-        return false;
-    }
-    read_code_u8(sheet, body + 2) == CONSTANT_CLASS
+    read_code_u16(sheet, body) == index && read_code_u8(sheet, body + 2) == CONSTANT_CLASS
 }
 
 // Whether one of the KI records from an offset on up to an end is such a record.
@@ -42,52 +37,45 @@ fn is_catch_type(sheet: &[u8], p: Reading, catch_type: u16) -> bool
     requires { (p.code + p.code_length ≤ p.handlers) × (p.handlers ≤ length sheet.now) }
     ensures { result ≡ is_catch_type sheet.now p catch_type }
 {
-    if catch_type == 0 {
-        return true;
-    }
-    is_class(sheet, p.code + p.code_length, p.handlers, catch_type)
+    catch_type == 0 || is_class(sheet, p.code + p.code_length, p.handlers, catch_type)
 }
 
 // Eight bytes; start below end; start and handler inside the code, and end at most its length; a catch type.
-fn check_handler(sheet: &[u8], at: usize, p: Reading) -> Checked
+fn check_handler(sheet: &[u8], at: usize, p: Reading) -> Result<(), Refusal>
     requires { (p.code + p.code_length ≤ p.handlers) × (p.handlers ≤ at) × (at ≤ length sheet.now) }
-    ensures { result ≡ checked (contents_check sheet.now at p EX) }
+    ensures { result ≡ contents_check sheet.now at p EX }
 {
     if body_length(sheet, at) != 8 {
-        return Checked::Refused(33);
+        return Err(Refusal::HandlerRecord);
     }
     let start = read_code_u16(sheet, at + 4);
     let end = read_code_u16(sheet, at + 6);
     if end <= start {
-        return Checked::Refused(33);
+        return Err(Refusal::HandlerRecord);
     }
     if p.code_length <= start as usize {
-        return Checked::Refused(33);
+        return Err(Refusal::HandlerRecord);
     }
     if p.code_length <= read_code_u16(sheet, at + 8) as usize {
-        return Checked::Refused(33);
+        return Err(Refusal::HandlerRecord);
     }
     if p.code_length < end as usize {
-        return Checked::Refused(33);
+        return Err(Refusal::HandlerRecord);
     }
     if !is_catch_type(sheet, p, read_code_u16(sheet, at + 10)) {
-        return Checked::Refused(33);
+        return Err(Refusal::HandlerRecord);
     }
-    Checked::Passed
+    Ok(())
 }
 
 // EX: nothing but that the record has been read; where the handlers begin is known from the record before them.
-pub(crate) fn read_handler(sheet: &[u8], at: usize, p: Reading) -> Record
+pub(crate) fn read_handler(sheet: &[u8], at: usize, p: Reading) -> Result<Reading, Refusal>
     requires { (p.code + p.code_length ≤ p.handlers) × (p.handlers ≤ at) × (at ≤ length sheet.now) }
-    ensures { result ≡ record_answer (contents_read sheet.now at p EX) }
+    ensures { result ≡ contents_read sheet.now at p EX }
 {
-    let asked = check_handler(sheet, at, p);
-    match asked {
-        Checked::Refused(n) => Record::Refused(n),
-        Checked::Passed => {
-            let mut q = p;
-            q.last = AFTER_EX;
-            Record::Read(q)
-        }
-    }
+    check_handler(sheet, at, p)?;
+    Ok(Reading {
+        last: Some(Mark::EX),
+        ..p
+    })
 }

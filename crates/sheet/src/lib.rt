@@ -11,4 +11,3 @@ mod records;
 
 pub use checking::check_sheet;
 pub use loading::{code_of, handlers_of, load, load_read, loaded_state};
-pub use records::Record;

@@ -1,13 +1,11 @@
 // Loading a sheet: checked whole first, filled after.
 ghost use Rattle.std.specs.Prelude.{◌≡◌, ◌+◌, ◌≤◌};
-ghost use Rattle.rules.specs.Check.{passed};
 ghost use Rattle.rules.specs.Sheet.{sheet_check, loaded_state, accepted_load, refused_load, load_of, part_of, code_of, handlers_of};
 ghost use Rattle.sheet.specs.Filled.{after_load};
 
-use crate::checking::{check_sheet, is_enough};
+use crate::checking::{check_memory, check_sheet};
 use crate::filling::{fill_pool, fill_slots};
-use crate::records::Record;
-use rules::{Load, Loaded, Reading, State};
+use rules::{Loaded, Reading, Refusal, State};
 
 // The state of a method that is loaded. Every first state is made here.
 pub fn loaded_state(max_stack: u16, max_locals: u16, return_type: u32) -> State
@@ -23,12 +21,12 @@ pub fn loaded_state(max_stack: u16, max_locals: u16, return_type: u32) -> State
     }
 }
 
-// What a refused load gives: its number, a state of zeros and twice the empty part at the sheet's start.
-fn refused_load(number: u32) -> Loaded
-    ensures { result ≡ refused_load number }
+// What a refused load gives: its refusal, a state of zeros and twice the empty part at the sheet's start.
+fn refused_load(refusal: Refusal) -> Loaded
+    ensures { result ≡ refused_load refusal }
 {
     Loaded {
-        answer: Load::Refused(number),
+        answer: Err(refusal),
         state: loaded_state(0, 0, 0),
         code: 0,
         code_length: 0,
@@ -43,7 +41,7 @@ fn accepted_load(p: Reading) -> Loaded
     ensures { result ≡ accepted_load p }
 {
     Loaded {
-        answer: Load::Accepted,
+        answer: Ok(()),
         state: loaded_state(p.max_stack, p.max_locals, p.return_type),
         code: p.code,
         code_length: p.code_length,
@@ -60,11 +58,11 @@ pub fn load_read(
     words: &mut [u32],
     p: Reading,
 ) -> Loaded
-    requires { sheet_check sheet.now ≡ passed p }
+    requires { sheet_check sheet.now ≡ Ok p }
     ensures { after_load result slots.new kinds.new words.new ≡ load_of sheet.now slots.old kinds.old words.old }
 {
-    if !is_enough(p, slots, kinds, words) {
-        return refused_load(26);
+    if let Err(refusal) = check_memory(p, slots, kinds, words) {
+        return refused_load(refusal);
     }
     fill_pool(sheet, p.code + p.code_length, p.handlers, kinds, words);
     fill_slots(sheet, p, slots);
@@ -75,10 +73,9 @@ pub fn load_read(
 pub fn load(sheet: &[u8], slots: &mut [u32], kinds: &mut [u8], words: &mut [u32]) -> Loaded
     ensures { after_load result slots.new kinds.new words.new ≡ load_of sheet.now slots.old kinds.old words.old }
 {
-    let checked = check_sheet(sheet);
-    match checked {
-        Record::Refused(n) => refused_load(n),
-        Record::Read(p) => load_read(sheet, slots, kinds, words, p),
+    match check_sheet(sheet) {
+        Err(refusal) => refused_load(refusal),
+        Ok(p) => load_read(sheet, slots, kinds, words, p),
     }
 }
 

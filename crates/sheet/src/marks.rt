@@ -1,9 +1,8 @@
 // The marks of a sheet's records: which they are, which may follow which, and the lengths that they allow.
 ghost use Rattle.std.specs.Prelude.{◌≡◌};
-ghost use Rattle.rules.specs.Sheet.{is_narrow, tag_suits, word_suits, known_mark, ends_pool, follows, right_length};
-ghost use Rattle.sheet.specs.Records.{mark_answer};
+ghost use Rattle.rules.specs.Sheet.{is_last, is_narrow, tag_suits, word_suits, known_mark, follows, right_length};
 
-use rules::Mark;
+use rules::{Mark, Refusal};
 
 // The marks in ASCII.
 const LM: u16 = 0x4C4D;
@@ -17,21 +16,6 @@ const KI: u16 = 0x4B49;
 const EX: u16 = 0x4558;
 
 const AR: u16 = 0x4152;
-
-// The last record's mark, by its number.
-const NO_RECORD: u32 = 0;
-
-pub(crate) const AFTER_LM: u32 = 1;
-
-pub(crate) const AFTER_DS: u32 = 2;
-
-pub(crate) const AFTER_CD: u32 = 3;
-
-pub(crate) const AFTER_KI: u32 = 4;
-
-pub(crate) const AFTER_EX: u32 = 5;
-
-pub(crate) const AFTER_AR: u32 = 6;
 
 // The body of a KI record with a value of one word, and of two.
 const NARROW_CONSTANT: u16 = 7;
@@ -49,63 +33,40 @@ const CONSTANT_DOUBLE: u8 = 6;
 
 pub(crate) const CONSTANT_CLASS: u8 = 7;
 
-// A mark, or the number of the refusal of one that is not known.
-#[derive(Clone, Copy)]
-pub(crate) enum Known {
-    Mark(Mark),
-    Refused(u32),
-}
-
 // The mark of two bytes.
-pub(crate) fn known_mark(bytes: u16) -> Known
-    ensures { result ≡ mark_answer (known_mark bytes) }
+pub(crate) fn known_mark(bytes: u16) -> Result<Mark, Refusal>
+    ensures { result ≡ known_mark bytes }
 {
-    if bytes == LM {
-        return Known::Mark(Mark::LM);
+    match bytes {
+        LM => Ok(Mark::LM),
+        DS => Ok(Mark::DS),
+        CD => Ok(Mark::CD),
+        KI => Ok(Mark::KI),
+        EX => Ok(Mark::EX),
+        AR => Ok(Mark::AR),
+        _ => Err(Refusal::UnknownMark),
     }
-    if bytes == DS {
-        return Known::Mark(Mark::DS);
-    }
-    if bytes == CD {
-        return Known::Mark(Mark::CD);
-    }
-    if bytes == KI {
-        return Known::Mark(Mark::KI);
-    }
-    if bytes == EX {
-        return Known::Mark(Mark::EX);
-    }
-    if bytes == AR {
-        return Known::Mark(Mark::AR);
-    }
-    Known::Refused(22)
-}
-
-// Whether the constants may end after the last record: EX and AR stand after them.
-fn ends_pool(last: u32) -> bool
-    ensures { result ≡ ends_pool last }
-{
-    if last == AFTER_CD {
-        return true;
-    }
-    if last == AFTER_KI {
-        return true;
-    }
-    last == AFTER_EX
 }
 
 // Whether a record may come after the last one.
-pub(crate) fn may_follow(mark: Mark, last: u32) -> bool
+pub(crate) fn may_follow(mark: Mark, last: Option<Mark>) -> bool
     ensures { result ≡ follows mark last }
 {
-    match mark {
-        Mark::LM => last == NO_RECORD,
-        Mark::DS => last == AFTER_LM,
-        Mark::CD => last == AFTER_LM || last == AFTER_DS,
-        Mark::KI => last == AFTER_CD || last == AFTER_KI,
-        Mark::EX => ends_pool(last),
-        Mark::AR => ends_pool(last),
-    }
+    matches!(
+        (mark, last),
+        (Mark::LM, None)
+            | (Mark::DS, Some(Mark::LM))
+            | (Mark::CD, Some(Mark::LM | Mark::DS))
+            | (Mark::KI, Some(Mark::CD | Mark::KI))
+            | (Mark::EX | Mark::AR, Some(Mark::CD | Mark::KI | Mark::EX))
+    )
+}
+
+// Whether the last record is AR, which ends a sheet.
+pub(crate) fn ends_sheet(last: Option<Mark>) -> bool
+    ensures { result ≡ is_last Mark.AR last }
+{
+    matches!(last, Some(Mark::AR))
 }
 
 // Whether a body has a length that its mark allows.
@@ -114,10 +75,9 @@ pub(crate) fn right_length(mark: Mark, size: u16) -> bool
 {
     match mark {
         Mark::LM => size == 4,
-        Mark::DS => true,
+        Mark::DS | Mark::EX => true,
         Mark::CD => 1 <= size,
-        Mark::KI => size == NARROW_CONSTANT || size == WIDE_CONSTANT,
-        Mark::EX => true,
+        Mark::KI => matches!(size, NARROW_CONSTANT | WIDE_CONSTANT),
         Mark::AR => size % 4 == 0,
     }
 }
@@ -126,13 +86,7 @@ pub(crate) fn right_length(mark: Mark, size: u16) -> bool
 fn is_narrow(tag: u8) -> bool
     ensures { result ≡ is_narrow tag }
 {
-    if tag == CONSTANT_INTEGER {
-        return true;
-    }
-    if tag == CONSTANT_FLOAT {
-        return true;
-    }
-    tag == CONSTANT_CLASS
+    matches!(tag, CONSTANT_INTEGER | CONSTANT_FLOAT | CONSTANT_CLASS)
 }
 
 // Whether a tag suits the body's length.
@@ -142,15 +96,12 @@ pub(crate) fn tag_suits(tag: u8, size: u16) -> bool
     if size == NARROW_CONSTANT {
         return is_narrow(tag);
     }
-    tag == CONSTANT_LONG || tag == CONSTANT_DOUBLE
+    matches!(tag, CONSTANT_LONG | CONSTANT_DOUBLE)
 }
 
 // Whether a word suits a tag: that of a class is 0 or 1.
 pub(crate) fn word_suits(tag: u8, word: u32) -> bool
     ensures { result ≡ word_suits tag word }
 {
-    if tag != CONSTANT_CLASS {
-        return true;
-    }
-    word <= 1
+    tag != CONSTANT_CLASS || word <= 1
 }

@@ -1,20 +1,12 @@
 // One record of a sheet: a mark, the length of its body, the body; and what is asked of every record.
 ghost use Rattle.std.specs.Prelude.{◌≡◌, ◌+◌, ◌≤◌, length};
 ghost use Rattle.rules.specs.Sheet.{body_length, record_end, marked_check, record_check};
-ghost use Rattle.sheet.specs.Records.{record_answer};
 
 use crate::contents::{read_arguments, read_code, read_constant, read_sizes, read_types};
 use crate::handler_records::read_handler;
-use crate::marks::{Known, known_mark, may_follow, right_length};
+use crate::marks::{known_mark, may_follow, right_length};
 use operands::read_code_u16;
-use rules::{Mark, Reading};
-
-// What has been read with a record, or the number of its refusal.
-#[derive(Clone, Copy)]
-pub enum Record {
-    Read(Reading),
-    Refused(u32),
-}
+use rules::{Mark, Reading, Refusal};
 
 // The length of a record's body.
 pub(crate) fn body_length(sheet: &[u8], at: usize) -> u16
@@ -25,16 +17,16 @@ pub(crate) fn body_length(sheet: &[u8], at: usize) -> u16
 }
 
 // A record whose mark is known: its place, its length and its contents.
-fn check_marked(sheet: &[u8], at: usize, p: Reading, mark: Mark) -> Record
+fn check_marked(sheet: &[u8], at: usize, p: Reading, mark: Mark) -> Result<Reading, Refusal>
     requires at_in_bounds { record_end sheet.now at ≤ length sheet.now }
     requires code_length_bound { (p.code + p.code_length ≤ p.handlers) × (p.handlers ≤ at) }
-    ensures { result ≡ record_answer (marked_check sheet.now at p mark) }
+    ensures { result ≡ marked_check sheet.now at p mark }
 {
     if !may_follow(mark, p.last) {
-        return Record::Refused(23);
+        return Err(Refusal::RecordOrder);
     }
     if !right_length(mark, body_length(sheet, at)) {
-        return Record::Refused(24);
+        return Err(Refusal::RecordLength);
     }
     match mark {
         Mark::LM => read_sizes(sheet, at, p),
@@ -47,21 +39,18 @@ fn check_marked(sheet: &[u8], at: usize, p: Reading, mark: Mark) -> Record
 }
 
 // The record at an offset, after what has been read before it.
-pub(crate) fn check_record(sheet: &[u8], at: usize, p: Reading) -> Record
+pub(crate) fn check_record(sheet: &[u8], at: usize, p: Reading) -> Result<Reading, Refusal>
     requires at_in_bounds { at ≤ length sheet.now }
     requires code_length_bound { (p.code + p.code_length ≤ p.handlers) × (p.handlers ≤ at) }
-    ensures { result ≡ record_answer (record_check sheet.now at p) }
+    ensures { result ≡ record_check sheet.now at p }
 {
     if sheet.len() < at + 4 {
-        return Record::Refused(21);
+        return Err(Refusal::RecordCut);
     }
-    let size = body_length(sheet, at);
-    if sheet.len() < at + 4 + size as usize {
-        return Record::Refused(21);
+    let size = body_length(sheet, at) as usize;
+    if sheet.len() < at + 4 + size {
+        return Err(Refusal::RecordCut);
     }
-    let known = known_mark(read_code_u16(sheet, at));
-    match known {
-        Known::Refused(n) => Record::Refused(n),
-        Known::Mark(mark) => check_marked(sheet, at, p, mark),
-    }
+    let mark = known_mark(read_code_u16(sheet, at))?;
+    check_marked(sheet, at, p, mark)
 }

@@ -1,19 +1,17 @@
 -- `read_arguments` meets its contract. Assumes nothing.
-use mathlib.Core.Path.{sym, ap, ◌∙◌}
+use Rattle.std.proofs.Common.{sym, ◌∙◌}
+use Rattle.std.proofs.lemmas.Result.{err_from_is_err_and}
 use Rattle.rules.specs.declared.sheets.Mark.TheVariants.{AR}
 use Rattle.rules.specs.Sheet.{with_record}
 use Rattle.rules.proofs.Sheet.{bad_contents, good_contents}
-use Rattle.rules.proofs.Answers.{row_passed, row_refused}
-use Rattle.sheet.specs.Records.{record_answer}
 use Rattle.sheet.proofs.contents.read_arguments.Goals as goal
-use Rattle.std.specs.Prelude.{Err}
-use Rattle.rules.specs.declared.halts.Halt.TheVariants.{Refused}
 
-pub returns-in-Refused : goal.returns-in-Refused
-returns-in-Err c = let a = c.args in
-    sym (ap record_answer (bad_contents a.sheet.now a.at a.p AR _ (row_refused _ _ (sym c.in-Refused.is ∙ c.check_arguments-asked.ensures))))
+pub returns-in_err-check_arguments : goal.returns-in_err-check_arguments
+returns-in_err-check_arguments c = let a = c.args in
+    let e = err_from_is_err_and c.from_residual.result c.from_residual.ensures.1 in
+    rw (e.1, e.2) (sym (bad_contents a.sheet.now a.at a.p AR _ (sym c.in_err-check_arguments.ensures)))
 
-pub returns-in-Passed : goal.returns-in-Passed
+pub returns : goal.returns
 unfolding with_record
-returns-in-Passed c = let a = c.args in
-    sym (ap record_answer (good_contents a.sheet.now a.at a.p AR (row_passed _ (sym c.in-Passed.is ∙ c.check_arguments-asked.ensures))) ∙ simp (← c.body_length-size.ensures))
+returns c = let a = c.args in
+    sym (good_contents a.sheet.now a.at a.p AR (sym c.in_ok-check_arguments.ensures) ∙ simp (← c.body_length.ensures))

@@ -6,7 +6,6 @@ use native.Mathlib.Omega.{arith}
 use Rattle.rules.specs.Sheet.{record_end, class_from}
 use Rattle.rules.proofs.Sheet.{class_end, next_class}
 use Rattle.sheet.proofs.handler_records.is_class.Goals as goal
-use Rattle.std.specs.Prelude.{Ok}
 
 pub loop-at-init : goal.loop-at-init
 loop-at-init c = refl

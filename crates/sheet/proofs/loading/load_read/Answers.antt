@@ -2,45 +2,43 @@
 use Prim.Native.Nat.{◌≤◌}
 use mathlib.Core.Path.{sym, ◌∙◌}
 use native.Mathlib.Omega.{arith}
-use borrow.Author.Tests.{not-true, not-false}
 use Rattle.rules.proofs.Sheet.{load_short, load_accepted}
 use Rattle.rules.proofs.Placement.{sheet_within}
 use Rattle.sheet.specs.Filled.{pool}
-use Rattle.sheet.proofs.Answers.{not_enough, enough, slots_reach}
+use Rattle.rules.specs.Sheet.{last_number}
+use Rattle.sheet.proofs.Answers.{slots_reach}
 use Rattle.sheet.proofs.loading.load_read.Goals as goal
 
-pub returns-then-not-is_enough : goal.returns-then-not-is_enough
-returns-then-not-is_enough c = let a = c.args in
-    rw c.refused_load.ensures (load_short a.sheet.now a.slots.now a.kinds.now a.words.now a.p c.requires 26
-    (not_enough a.p a.slots.now a.kinds.now a.words.now (sym c.is_enough.ensures ∙ not-true _ c.if-not-is_enough.true-raw)))
+pub returns-in-Err : goal.returns-in-Err
+returns-in-Err c = let a = c.args in
+    rw c.refused_load.ensures (load_short a.sheet.now a.slots.now a.kinds.now a.words.now a.p c.requires _ (sym c.in-Err.ensures))
 
 pub overflow_add-p : goal.overflow_add-p
 overflow_add-p c = let a = c.args in
     let (w, last) = sheet_within a.sheet.now a.p c.requires in
-    let whole : 6 ≤ a.p.last = omega arith in
+    let whole : 6 ≤ last_number a.p.last = omega arith in
     omega (arith, w.code_first, w.handlers_first whole, w.arguments_there whole)
 
 pub fill_pool-requires : goal.fill_pool-requires
 fill_pool-requires c = let a = c.args in
     let (w, last) = sheet_within a.sheet.now a.p c.requires in
-    let whole : 6 ≤ a.p.last = omega arith in
+    let whole : 6 ≤ last_number a.p.last = omega arith in
     omega (arith, w.handlers_first whole, w.arguments_there whole)
 
 pub fill_slots-requires : goal.fill_slots-requires
 fill_slots-requires c = let a = c.args in
     let (w, last) = sheet_within a.sheet.now a.p c.requires in
-    let whole : 6 ≤ a.p.last = omega arith in
-    let fits = slots_reach a.p a.slots.now a.kinds.now a.words.now (enough a.p a.slots.now a.kinds.now a.words.now (sym c.is_enough.ensures ∙ not-false _ c.if-not-is_enough.false-raw)) in
+    let whole : 6 ≤ last_number a.p.last = omega arith in
+    let fits = slots_reach a.p a.slots.now a.kinds.now a.words.now (sym c.check_memory.ensures ∙ c.in_default.is) in
     (w.arguments_there whole, w.few_arguments whole, fits)
 
 pub accepted_load-requires : goal.accepted_load-requires
 accepted_load-requires c = let a = c.args in
     let (w, last) = sheet_within a.sheet.now a.p c.requires in
-    let whole : 6 ≤ a.p.last = omega arith in
+    let whole : 6 ≤ last_number a.p.last = omega arith in
     w.handlers_first whole
 
 pub returns : goal.returns
 returns c = let a = c.args in
-    let fits = enough a.p a.slots.now a.kinds.now a.words.now (sym c.is_enough.ensures ∙ not-false _ c.if-not-is_enough.false-raw) in
     rw (c.accepted_load.ensures, c.fill_slots.ensures)
-    (load_accepted a.sheet.now a.slots.now a.kinds.now a.words.now a.p c.requires fits (pool _ _) c.fill_pool.ensures)
+    (load_accepted a.sheet.now a.slots.now a.kinds.now a.words.now a.p c.requires (sym c.check_memory.ensures ∙ c.in_default.is) (pool _ _) c.fill_pool.ensures)

@@ -8,18 +8,17 @@ use Rattle.rules.specs.declared.sheets.Mark.{Mark}
 use Rattle.rules.specs.declared.sheets.Reading.{Reading}
 use Rattle.rules.specs.Sheet.{body_length, follows, right_length, contents_read, marked_check}
 use Rattle.rules.proofs.Sheet.{disordered, wrong_length, read_on}
-use Rattle.sheet.specs.Records.{record_answer}
 use Rattle.sheet.proofs.records.check_marked.Goals as goal
 
 pub returns-then-not-may_follow : goal.returns-then-not-may_follow
 returns-then-not-may_follow c = let a = c.args in
-    sym (ap record_answer (disordered a.sheet.now a.at a.p a.mark (sym c.may_follow.ensures ∙ not-true _ c.if-not-may_follow.true-raw)))
+    sym ((disordered a.sheet.now a.at a.p a.mark (sym c.may_follow.ensures ∙ not-true _ c.if-not-may_follow.true-raw)))
 
 pub returns-then-not-right_length : goal.returns-then-not-right_length
 returns-then-not-right_length c = let a = c.args in
     let ordered = sym c.may_follow.ensures ∙ not-false _ c.if-not-may_follow.false-raw in
     let wrong = rw c.body_length.ensures at (sym c.right_length.ensures ∙ not-true _ c.if-not-right_length.true-raw) in
-    sym (ap record_answer (wrong_length a.sheet.now a.at a.p a.mark ordered wrong))
+    sym ((wrong_length a.sheet.now a.at a.p a.mark ordered wrong))
 
 -- in its place and of the right length it is what its contents are
 module _ (sheet : List ℕ) (at : ℕ) (p : Reading) (m : Mark) (ordered : Bool) (f : ordered ≡ follows m p.last) (size : ℕ) (e : size ≡ body_length sheet at) (right : Bool) (r : right ≡ right_length m size) where
@@ -27,19 +26,19 @@ module _ (sheet : List ℕ) (at : ℕ) (p : Reading) (m : Mark) (ordered : Bool)
   placed g h = read_on sheet at p m (sym f ∙ g) (rw e at (sym r ∙ h))
 
 pub returns-in-LM : goal.returns-in-LM
-returns-in-LM c = c.read_sizes.ensures ∙ sym (ap record_answer (placed c.args.sheet.now c.args.at c.args.p c.args.mark _ c.may_follow.ensures _ c.body_length.ensures _ c.right_length.ensures c.if-not-may_follow.false c.if-not-right_length.false ∙ ap (contents_read c.args.sheet.now c.args.at c.args.p) c.in-LM.is))
+returns-in-LM c = c.read_sizes.ensures ∙ sym ((placed c.args.sheet.now c.args.at c.args.p c.args.mark _ c.may_follow.ensures _ c.body_length.ensures _ c.right_length.ensures c.if-not-may_follow.false c.if-not-right_length.false ∙ ap (contents_read c.args.sheet.now c.args.at c.args.p) c.in-LM.is))
 
 pub returns-in-DS : goal.returns-in-DS
-returns-in-DS c = c.read_types.ensures ∙ sym (ap record_answer (placed c.args.sheet.now c.args.at c.args.p c.args.mark _ c.may_follow.ensures _ c.body_length.ensures _ c.right_length.ensures c.if-not-may_follow.false c.if-not-right_length.false ∙ ap (contents_read c.args.sheet.now c.args.at c.args.p) c.in-DS.is))
+returns-in-DS c = c.read_types.ensures ∙ sym ((placed c.args.sheet.now c.args.at c.args.p c.args.mark _ c.may_follow.ensures _ c.body_length.ensures _ c.right_length.ensures c.if-not-may_follow.false c.if-not-right_length.false ∙ ap (contents_read c.args.sheet.now c.args.at c.args.p) c.in-DS.is))
 
 pub returns-in-CD : goal.returns-in-CD
-returns-in-CD c = c.read_code.ensures ∙ sym (ap record_answer (placed c.args.sheet.now c.args.at c.args.p c.args.mark _ c.may_follow.ensures _ c.body_length.ensures _ c.right_length.ensures c.if-not-may_follow.false c.if-not-right_length.false ∙ ap (contents_read c.args.sheet.now c.args.at c.args.p) c.in-CD.is))
+returns-in-CD c = c.read_code.ensures ∙ sym ((placed c.args.sheet.now c.args.at c.args.p c.args.mark _ c.may_follow.ensures _ c.body_length.ensures _ c.right_length.ensures c.if-not-may_follow.false c.if-not-right_length.false ∙ ap (contents_read c.args.sheet.now c.args.at c.args.p) c.in-CD.is))
 
 pub returns-in-KI : goal.returns-in-KI
-returns-in-KI c = c.read_constant.ensures ∙ sym (ap record_answer (placed c.args.sheet.now c.args.at c.args.p c.args.mark _ c.may_follow.ensures _ c.body_length.ensures _ c.right_length.ensures c.if-not-may_follow.false c.if-not-right_length.false ∙ ap (contents_read c.args.sheet.now c.args.at c.args.p) c.in-KI.is))
+returns-in-KI c = c.read_constant.ensures ∙ sym ((placed c.args.sheet.now c.args.at c.args.p c.args.mark _ c.may_follow.ensures _ c.body_length.ensures _ c.right_length.ensures c.if-not-may_follow.false c.if-not-right_length.false ∙ ap (contents_read c.args.sheet.now c.args.at c.args.p) c.in-KI.is))
 
 pub returns-in-EX : goal.returns-in-EX
-returns-in-EX c = c.read_handler.ensures ∙ sym (ap record_answer (placed c.args.sheet.now c.args.at c.args.p c.args.mark _ c.may_follow.ensures _ c.body_length.ensures _ c.right_length.ensures c.if-not-may_follow.false c.if-not-right_length.false ∙ ap (contents_read c.args.sheet.now c.args.at c.args.p) c.in-EX.is))
+returns-in-EX c = c.read_handler.ensures ∙ sym ((placed c.args.sheet.now c.args.at c.args.p c.args.mark _ c.may_follow.ensures _ c.body_length.ensures _ c.right_length.ensures c.if-not-may_follow.false c.if-not-right_length.false ∙ ap (contents_read c.args.sheet.now c.args.at c.args.p) c.in-EX.is))
 
 pub returns-in-AR : goal.returns-in-AR
-returns-in-AR c = c.read_arguments.ensures ∙ sym (ap record_answer (placed c.args.sheet.now c.args.at c.args.p c.args.mark _ c.may_follow.ensures _ c.body_length.ensures _ c.right_length.ensures c.if-not-may_follow.false c.if-not-right_length.false ∙ ap (contents_read c.args.sheet.now c.args.at c.args.p) c.in-AR.is))
+returns-in-AR c = c.read_arguments.ensures ∙ sym ((placed c.args.sheet.now c.args.at c.args.p c.args.mark _ c.may_follow.ensures _ c.body_length.ensures _ c.right_length.ensures c.if-not-may_follow.false c.if-not-right_length.false ∙ ap (contents_read c.args.sheet.now c.args.at c.args.p) c.in-AR.is))

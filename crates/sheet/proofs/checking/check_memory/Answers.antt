@@ -1,10 +1,9 @@
--- `is_enough` meets its contract. Assumes nothing.
+-- `check_memory` meets its contract. Assumes nothing.
 use mathlib.Core.Path.{sym, ◌∙◌}
 use borrow.Author.Tests.{le-leb, lt-leb, eq-eqb, ne_eqb, not-true, not-false}
 use Rattle.rules.specs.Check.{◌else◌, ◌>>◌}
 use Rattle.rules.specs.Sheet.{memory_check}
-use Rattle.rules.proofs.Check.{last_asked}
-use Rattle.sheet.proofs.checking.is_enough.Goals as goal
+use Rattle.sheet.proofs.checking.check_memory.Goals as goal
 
 pub returns-then-slots-p : goal.returns-then-slots-p
 unfolding memory_check ◌else◌ ◌>>◌
@@ -18,6 +17,10 @@ pub returns-then-kinds-words : goal.returns-then-kinds-words
 unfolding memory_check ◌else◌ ◌>>◌
 returns-then-kinds-words c = simp (le-leb _ _ c.if-slots-p.false, sym c.reaches.ensures ∙ not-false _ c.if-not-reaches.false-raw, ne_eqb _ _ c.if-kinds-words.true)
 
+pub returns-then-kinds-gt65536 : goal.returns-then-kinds-gt65536
+unfolding memory_check ◌else◌ ◌>>◌
+returns-then-kinds-gt65536 c = simp (le-leb _ _ c.if-slots-p.false, sym c.reaches.ensures ∙ not-false _ c.if-not-reaches.false-raw, eq-eqb _ _ c.if-kinds-words.false, lt-leb _ _ c.if-kinds-gt65536.true)
+
 pub returns : goal.returns
 unfolding memory_check ◌else◌ ◌>>◌
-returns c = simp (le-leb _ _ c.if-slots-p.false, sym c.reaches.ensures ∙ not-false _ c.if-not-reaches.false-raw, eq-eqb _ _ c.if-kinds-words.false) (last_asked _ 26)
+returns c = simp (le-leb _ _ c.if-slots-p.false, sym c.reaches.ensures ∙ not-false _ c.if-not-reaches.false-raw, eq-eqb _ _ c.if-kinds-words.false, le-leb _ _ c.if-kinds-gt65536.false)
