@@ -1,9 +1,8 @@
 -- What the answers to a descriptor and to the memory say of the questions. Assumes nothing.
-use Prim.Native.Nat.{ℕ, ◌+◌, ◌-◌, ◌≤◌}
+use Prim.Native.Nat.{ℕ, ◌+◌, ◌≤◌}
 use mathlib.Core.Path.{◌≡◌, subst}
 use mathlib.Core.List.{List}
-use native.Mathlib.Omega.{arith}
-use lib.ListN.{length, take, drop}
+use lib.ListN.{length}
 use borrow.Author.Tests.{leb-true}
 use Rattle.std.specs.Prelude.{Some, Ok, Err}
 use Rattle.rules.specs.declared.sheets.Mark.TheVariants.{DS}
@@ -17,10 +16,6 @@ use Rattle.descriptor.specs.declared.descriptors.Descriptor.{Descriptor}
 use Rattle.descriptor.specs.Answers.{descriptor_of, described}
 
 -- ---- a DS record, by what its descriptor says
-
--- its part of the sheet, as it is lent on
-pub part_is : (sheet : List ℕ) (start n m : ℕ) → n ≡ m → take (start + n - start) (drop start sheet) ≡ take m (drop start sheet)
-part_is sheet start n m e = let k : start + n - start ≡ m = omega arith in rw k
 
 module _ (sheet : List ℕ) (at : ℕ) (p : Reading) where
   pub types_read : (d : List ℕ) (x : Descriptor) → Ok x ≡ described d → d ≡ descriptor_at sheet at

@@ -1,4 +1,5 @@
--- Laws for this crate's functions; Answers is cited by workbook too
-pub mod Answers
+-- Laws for this crate's functions
+mod Answers
 mod Constants
 mod Fronts
+mod Passed

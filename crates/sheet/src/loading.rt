@@ -5,6 +5,7 @@ ghost use Rattle.sheet.specs.Filled.{after_load};
 
 use crate::checking::{check_memory, check_sheet};
 use crate::filling::{fill_pool, fill_slots};
+use crate::records::Records;
 use rules::{Loaded, Reading, Refusal, State};
 
 // The state of a method that is loaded. Every first state is made here.
@@ -64,7 +65,12 @@ pub fn load_read(
     if let Err(refusal) = check_memory(p, slots, kinds, words) {
         return refused_load(refusal);
     }
-    fill_pool(sheet, p.code + p.code_length, p.handlers, kinds, words);
+    let constants = Records {
+        sheet,
+        at: p.code + p.code_length,
+        end: p.handlers,
+    };
+    fill_pool(constants, kinds, words);
     fill_slots(sheet, p, slots);
     accepted_load(p)
 }

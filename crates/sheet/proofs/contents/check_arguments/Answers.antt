@@ -4,18 +4,18 @@ use borrow.Author.Tests.{not-true, not-false}
 use Rattle.rules.proofs.Sheet.{too_many, wrong_count, arguments_read}
 use Rattle.sheet.proofs.contents.check_arguments.Goals as goal
 
-pub returns-then-count-p : goal.returns-then-count-p
-returns-then-count-p c = let a = c.args in
-    sym ((too_many a.sheet.now a.at a.p (rw c.body_length-count.ensures at c.if-count-p.true)))
+pub returns-then-count-next : goal.returns-then-count-next
+returns-then-count-next c = let a = c.args in
+    sym ((too_many a.next.now.record.sheet.now a.next.now.record.at a.next.now.before (rw c.body_length-count.ensures at c.if-count-next.true)))
 
 pub returns-then-not-is_taken : goal.returns-then-not-is_taken
 returns-then-not-is_taken c = let a = c.args in
-    let few = rw c.body_length-count.ensures at c.if-count-p.false in
+    let few = rw c.body_length-count.ensures at c.if-count-next.false in
     let wrong = rw c.body_length-count.ensures at (sym c.is_taken.ensures ∙ not-true _ c.if-not-is_taken.true-raw) in
-    sym ((wrong_count a.sheet.now a.at a.p few wrong))
+    sym ((wrong_count a.next.now.record.sheet.now a.next.now.record.at a.next.now.before few wrong))
 
 pub returns : goal.returns
 returns c = let a = c.args in
-    let few = rw c.body_length-count.ensures at c.if-count-p.false in
+    let few = rw c.body_length-count.ensures at c.if-count-next.false in
     let right = rw c.body_length-count.ensures at (sym c.is_taken.ensures ∙ not-false _ c.if-not-is_taken.false-raw) in
-    sym ((arguments_read a.sheet.now a.at a.p few right))
+    sym ((arguments_read a.next.now.record.sheet.now a.next.now.record.at a.next.now.before few right))

@@ -5,4 +5,4 @@ use Rattle.sheet.proofs.contents.read_sizes.Goals as goal
 
 pub returns : goal.returns
 unfolding contents_check with_record ◌>>◌
-returns c = simp (c.read_code_u16.ensures, c.read_code_u16-2.ensures)
+returns c = simp (c.limit_stack.ensures, c.limit_locals.ensures)

@@ -9,9 +9,9 @@ use Rattle.sheet.proofs.handler_records.read_handler.Goals as goal
 pub returns-in_err-check_handler : goal.returns-in_err-check_handler
 returns-in_err-check_handler c = let a = c.args in
     let e = err_from_is_err_and c.from_residual.result c.from_residual.ensures.1 in
-    rw (e.1, e.2) (sym (bad_contents a.sheet.now a.at a.p EX _ (sym c.in_err-check_handler.ensures)))
+    rw (e.1, e.2) (sym (bad_contents a.next.now.record.sheet.now a.next.now.record.at a.next.now.before EX _ (sym c.in_err-check_handler.ensures)))
 
 pub returns : goal.returns
 unfolding with_record
 returns c = let a = c.args in
-    sym (good_contents a.sheet.now a.at a.p EX (sym c.in_ok-check_handler.ensures))
+    sym (good_contents a.next.now.record.sheet.now a.next.now.record.at a.next.now.before EX (sym c.in_ok-check_handler.ensures))

@@ -13,17 +13,17 @@ pub returns-in-Err : goal.returns-in-Err
 returns-in-Err c = let a = c.args in
     rw c.refused_load.ensures (load_short a.sheet.now a.slots.now a.kinds.now a.words.now a.p c.requires _ (sym c.in-Err.ensures))
 
-pub overflow_add-p : goal.overflow_add-p
-overflow_add-p c = let a = c.args in
+pub overflow_add-constants : goal.overflow_add-constants
+overflow_add-constants c = let a = c.args in
     let (w, last) = sheet_within a.sheet.now a.p c.requires in
     let whole : 6 ≤ last_number a.p.last = omega arith in
     omega (arith, w.code_first, w.handlers_first whole, w.arguments_there whole)
 
-pub fill_pool-requires : goal.fill_pool-requires
-fill_pool-requires c = let a = c.args in
+pub invariant_of-constants : goal.invariant_of-constants
+invariant_of-constants c = let a = c.args in
     let (w, last) = sheet_within a.sheet.now a.p c.requires in
     let whole : 6 ≤ last_number a.p.last = omega arith in
-    omega (arith, w.handlers_first whole, w.arguments_there whole)
+    record { within = omega (arith, w.handlers_first whole, w.arguments_there whole) }
 
 pub fill_slots-requires : goal.fill_slots-requires
 fill_slots-requires c = let a = c.args in
