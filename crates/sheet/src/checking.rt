@@ -1,13 +1,28 @@
 // The whole sheet, record by record, and the memory that its method asks for.
 ghost use Rattle.std.specs.Prelude.{◌≡◌, ◌≤◌, ◌||◌, length};
 ghost use Rattle.rules.specs.Check.{◌=ⁿ◌, ◌<ⁿ◌};
-ghost use Rattle.rules.specs.Sheet.{record_end, marked_check, record_check, unread, sheet_check, memory_check};
+ghost use Rattle.rules.specs.Sheet.{record_end, contents_read, marked_check, record_check, unread, sheet_check, memory_check};
 
 use crate::contents::{read_arguments, read_code, read_constant, read_sizes, read_types};
 use crate::handler_records::read_handler;
 use crate::marks::{ends_sheet, known_mark, may_follow, right_length};
 use crate::records::{NextRecord, Records};
 use rules::{Mark, Reading, Refusal};
+
+// What a record of this mark says, where its contents are good.
+fn read_contents(next: &NextRecord, mark: Mark) -> Result<Reading, Refusal>
+    requires { record_end next.now.record.sheet.now next.now.record.at ≤ length next.now.record.sheet.now }
+    ensures { result ≡ contents_read next.now.record.sheet.now next.now.record.at next.now.before mark }
+{
+    match mark {
+        Mark::LM => read_sizes(next),
+        Mark::DS => read_types(next),
+        Mark::CD => read_code(next),
+        Mark::KI => read_constant(next),
+        Mark::EX => read_handler(next),
+        Mark::AR => read_arguments(next),
+    }
+}
 
 // A record whose mark is known: its place, its length and its contents.
 fn check_marked(next: &NextRecord, mark: Mark) -> Result<Reading, Refusal>
@@ -20,14 +35,7 @@ fn check_marked(next: &NextRecord, mark: Mark) -> Result<Reading, Refusal>
     if !right_length(mark, next.record.body_length()) {
         return Err(Refusal::RecordLength);
     }
-    match mark {
-        Mark::LM => read_sizes(next),
-        Mark::DS => read_types(next),
-        Mark::CD => read_code(next),
-        Mark::KI => read_constant(next),
-        Mark::EX => read_handler(next),
-        Mark::AR => read_arguments(next),
-    }
+    read_contents(next, mark)
 }
 
 // The next record, after what has been read before it.

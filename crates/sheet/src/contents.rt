@@ -9,14 +9,19 @@ use crate::records::NextRecord;
 use descriptor::read_descriptor;
 use rules::{Mark, Reading, Refusal};
 
+// Where the two sizes of an LM record lie.
+const MAX_STACK: usize = 4;
+
+const MAX_LOCALS: usize = 6;
+
 // LM: the two sizes.
 pub(crate) fn read_sizes(next: &NextRecord) -> Result<Reading, Refusal>
     ensures { result ≡ contents_read next.now.record.sheet.now next.now.record.at next.now.before LM }
 {
     Ok(Reading {
         last: Some(Mark::LM),
-        max_stack: next.record.limit_stack(),
-        max_locals: next.record.limit_locals(),
+        max_stack: next.record.u16_at(MAX_STACK),
+        max_locals: next.record.u16_at(MAX_LOCALS),
         ..next.before
     })
 }

@@ -6,6 +6,15 @@ ghost use Rattle.rules.specs.Sheet.{is_catch_type, contents_check, contents_read
 use crate::records::{NextRecord, Records};
 use rules::{Mark, Reading, Refusal};
 
+// Where the four fields of an EX record lie.
+const START_PC: usize = 4;
+
+const END_PC: usize = 6;
+
+const HANDLER_PC: usize = 8;
+
+const CATCH_TYPE: usize = 10;
+
 // Whether a catch type is 0 or the index of a class, of which the KI records between the code and the handlers say which they are.
 fn is_catch_type(next: &NextRecord, catch_type: u16) -> bool
     ensures { result ≡ is_catch_type next.now.record.sheet.now next.now.before catch_type }
@@ -28,21 +37,21 @@ fn check_handler(next: &NextRecord) -> Result<(), Refusal>
     if next.record.body_length() != 8 {
         return Err(Refusal::HandlerRecord);
     }
-    let start = next.record.start_pc();
-    let end = next.record.end_pc();
+    let start = next.record.u16_at(START_PC);
+    let end = next.record.u16_at(END_PC);
     if end <= start {
         return Err(Refusal::HandlerRecord);
     }
     if next.before.code_length <= start as usize {
         return Err(Refusal::HandlerRecord);
     }
-    if next.before.code_length <= next.record.handler_pc() as usize {
+    if next.before.code_length <= next.record.u16_at(HANDLER_PC) as usize {
         return Err(Refusal::HandlerRecord);
     }
     if next.before.code_length < end as usize {
         return Err(Refusal::HandlerRecord);
     }
-    if !is_catch_type(next, next.record.catch_type()) {
+    if !is_catch_type(next, next.record.u16_at(CATCH_TYPE)) {
         return Err(Refusal::HandlerRecord);
     }
     Ok(())

@@ -89,14 +89,10 @@ pub fn load(sheet: &[u8], slots: &mut [u32], kinds: &mut [u8], words: &mut [u32]
 fn part_of(sheet: &[u8], start: usize, count: usize) -> &[u8]
     ensures { result.now ≡ part_of sheet.now start count }
 {
-    if sheet.len() < start {
+    let Some(end) = start.checked_add(count) else {
         return &sheet[..0];
-    }
-    if sheet.len() - start < count {
-        return &sheet[..0];
-    }
-    let end = start + count;
-    &sheet[start..end]
+    };
+    sheet.get(start..end).unwrap_or(&sheet[..0])
 }
 
 // The code that a load found, as the very part of the sheet that holds it; of a load of another sheet that points past this one, the empty part.

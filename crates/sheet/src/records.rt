@@ -1,8 +1,7 @@
 // One record of a sheet, a mark, the length of its body and the body; and the records of a part of a sheet, one after the other.
 ghost use Rattle.std.specs.Prelude.{◌≡◌, ◌+◌, ◌≤◌, length};
 ghost use Rattle.rules.specs.Fetch.{u8, u16, u32};
-ghost use Rattle.rules.specs.Handlers.{start_pc, end_pc, handler_pc, catch_type};
-ghost use Rattle.rules.specs.Sheet.{limit_stack, limit_locals, descriptor_at, body_at, body_length, record_end, is_wide, pool_index, pool_tag, pool_word, is_class_at, last_index};
+ghost use Rattle.rules.specs.Sheet.{descriptor_at, body_at, body_length, record_end, is_wide, pool_index, pool_tag, pool_word, is_class_at, last_index};
 
 use crate::marks::{CONSTANT_CLASS, WIDE_CONSTANT};
 use operands::{read_code_u8, read_code_u16, read_code_u32};
@@ -24,11 +23,19 @@ impl<'a> Record<'a> {
         read_code_u16(self.sheet, self.at)
     }
 
+    // The two bytes at an offset from its mark on.
+    pub(crate) fn u16_at(&self, offset: usize) -> u16
+        requires { offset ≤ 65535 }
+        ensures { result ≡ u16 self.now.sheet.now (self.now.at + offset) }
+    {
+        read_code_u16(self.sheet, self.at + offset)
+    }
+
     // The length of its body.
     pub(crate) fn body_length(&self) -> u16
         ensures { result ≡ body_length self.now.sheet.now self.now.at }
     {
-        read_code_u16(self.sheet, self.at + 2)
+        self.u16_at(2)
     }
 
     // Where its body begins.
@@ -45,20 +52,6 @@ impl<'a> Record<'a> {
         self.at + 4 + self.body_length() as usize
     }
 
-    // Of an LM record: max_stack.
-    pub(crate) fn limit_stack(&self) -> u16
-        ensures { result ≡ limit_stack self.now.sheet.now self.now.at }
-    {
-        read_code_u16(self.sheet, self.at + 4)
-    }
-
-    // Of an LM record: max_locals.
-    pub(crate) fn limit_locals(&self) -> u16
-        ensures { result ≡ limit_locals self.now.sheet.now self.now.at }
-    {
-        read_code_u16(self.sheet, self.at + 6)
-    }
-
     // Of a DS record: the method descriptor.
     pub(crate) fn descriptor(&self) -> &'a [u8]
         requires { record_end self.now.sheet.now self.now.at ≤ length self.now.sheet.now }
@@ -73,7 +66,7 @@ impl<'a> Record<'a> {
     pub(crate) fn pool_index(&self) -> u16
         ensures { result ≡ pool_index self.now.sheet.now self.now.at }
     {
-        read_code_u16(self.sheet, self.at + 4)
+        self.u16_at(4)
     }
 
     // Of a KI record: its tag.
@@ -117,34 +110,6 @@ impl<'a> Record<'a> {
         ensures { result ≡ is_class_at self.now.sheet.now self.now.at index }
     {
         self.pool_index() == index && self.tag() == CONSTANT_CLASS
-    }
-
-    // Of an EX record: the first pc of its range.
-    pub(crate) fn start_pc(&self) -> u16
-        ensures { result ≡ start_pc self.now.sheet.now self.now.at }
-    {
-        read_code_u16(self.sheet, self.at + 4)
-    }
-
-    // Of an EX record: the pc after its range.
-    pub(crate) fn end_pc(&self) -> u16
-        ensures { result ≡ end_pc self.now.sheet.now self.now.at }
-    {
-        read_code_u16(self.sheet, self.at + 6)
-    }
-
-    // Of an EX record: where its handler begins.
-    pub(crate) fn handler_pc(&self) -> u16
-        ensures { result ≡ handler_pc self.now.sheet.now self.now.at }
-    {
-        read_code_u16(self.sheet, self.at + 8)
-    }
-
-    // Of an EX record: the index of the class that it catches, or 0.
-    pub(crate) fn catch_type(&self) -> u16
-        ensures { result ≡ catch_type self.now.sheet.now self.now.at }
-    {
-        read_code_u16(self.sheet, self.at + 10)
     }
 }
 

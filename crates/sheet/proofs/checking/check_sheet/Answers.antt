@@ -3,7 +3,6 @@
 use Rattle.std.proofs.Common.{refl, sym, ◌∙◌, length}
 use Rattle.std.proofs.lemmas.Result.{err_from_is_err_and}
 use native.Mathlib.Nat.{sub-zero}
-use borrow.Author.Tests.{not-true, not-false}
 use Rattle.rules.specs.Check.{◌else◌, ◌>>◌}
 use Rattle.rules.specs.Sheet.{sheet_check}
 use Rattle.rules.proofs.Sheet.{read_end}
@@ -41,9 +40,9 @@ loop-record-preserved c = let t = c.loop-record in
 pub returns-then-not-ends_sheet : goal.returns-then-not-ends_sheet
 unfolding ◌else◌ ◌>>◌
 returns-then-not-ends_sheet c = let t = c.loop-record in
-    sym (sym t.invariant.same ∙ read_end t.record-iterator.sheet.now _ t.record-iterator.at t.p (rw t.invariant.whole at c.in-None.ensures.steps) ∙ simp (sym c.ends_sheet.ensures ∙ not-true _ c.if-not-ends_sheet.true-raw))
+    sym (sym t.invariant.same ∙ read_end t.record-iterator.sheet.now _ t.record-iterator.at t.p (rw t.invariant.whole at c.in-None.ensures.steps) ∙ simp (sym c.ends_sheet.ensures ∙ c.if-not-ends_sheet.true))
 
 pub returns : goal.returns
 unfolding ◌else◌ ◌>>◌
 returns c = let t = c.loop-record in
-    sym (sym t.invariant.same ∙ read_end t.record-iterator.sheet.now _ t.record-iterator.at t.p (rw t.invariant.whole at c.in-None.ensures.steps) ∙ simp (sym c.ends_sheet.ensures ∙ not-false _ c.if-not-ends_sheet.false-raw))
+    sym (sym t.invariant.same ∙ read_end t.record-iterator.sheet.now _ t.record-iterator.at t.p (rw t.invariant.whole at c.in-None.ensures.steps) ∙ simp (sym c.ends_sheet.ensures ∙ c.if-not-ends_sheet.false))

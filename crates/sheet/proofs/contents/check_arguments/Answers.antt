@@ -1,6 +1,5 @@
 -- `check_arguments` meets its contract. Assumes nothing.
 use mathlib.Core.Path.{sym, ◌∙◌}
-use borrow.Author.Tests.{not-true, not-false}
 use Rattle.rules.proofs.Sheet.{too_many, wrong_count, arguments_read}
 use Rattle.sheet.proofs.contents.check_arguments.Goals as goal
 
@@ -11,11 +10,11 @@ returns-then-count-next c = let a = c.args in
 pub returns-then-not-is_taken : goal.returns-then-not-is_taken
 returns-then-not-is_taken c = let a = c.args in
     let few = rw c.body_length-count.ensures at c.if-count-next.false in
-    let wrong = rw c.body_length-count.ensures at (sym c.is_taken.ensures ∙ not-true _ c.if-not-is_taken.true-raw) in
+    let wrong = rw c.body_length-count.ensures at (sym c.is_taken.ensures ∙ c.if-not-is_taken.true) in
     sym ((wrong_count a.next.now.record.sheet.now a.next.now.record.at a.next.now.before few wrong))
 
 pub returns : goal.returns
 returns c = let a = c.args in
     let few = rw c.body_length-count.ensures at c.if-count-next.false in
-    let right = rw c.body_length-count.ensures at (sym c.is_taken.ensures ∙ not-false _ c.if-not-is_taken.false-raw) in
+    let right = rw c.body_length-count.ensures at (sym c.is_taken.ensures ∙ c.if-not-is_taken.false) in
     sym ((arguments_read a.next.now.record.sheet.now a.next.now.record.at a.next.now.before few right))
