@@ -2,10 +2,9 @@
 use Prim.Native.Nat.{ℕ, suc, ◌+◌, ◌-◌, ◌≤◌, ◌<◌}
 use mathlib.Core.Path.{◌≡◌, refl, sym, ap, ◌∙◌}
 use Rattle.std.specs.Prelude.{Option, Some, None}
-use mathlib.Core.Bool.{Bool, true, false, not, ◌||◌, cond}
+use mathlib.Core.Bool.{Bool, true, false, not, cond}
 use Rattle.std.specs.Option.{option_eq}
 use mathlib.Core.List.{List}
-use mathlib.Core.Logic.{⊎_elim}
 use native.Mathlib.Omega.{arith}
 use native.Mathlib.Nat.{zero-add, add-zero, add_assoc}
 use lib.Dec.{eqb}
@@ -13,8 +12,8 @@ use lib.ListN.{length}
 use borrow.Author.Tests.{eqb-true, eqb-false, eq-eqb, ne_eqb}
 use Rattle.values.specs.Kinds.{Kind, int, long, float, double, reference, any, places, places_of}
 use Rattle.rules.specs.Fetch.{u8}
-use Rattle.rules.specs.Descriptor.{double_type, float_type, long_type, class_type, array_type, slash, semicolon, character_at, brackets_end, field_end, kind_of, parameter_kinds, parameters_end}
-use Rattle.rules.proofs.Check.{cases, or_true, or_false}
+use Rattle.rules.specs.Descriptor.{array_type, slash, semicolon, character_at, brackets_end, field_end, kind_of, parameter_kinds, parameters_end}
+use Rattle.rules.proofs.Check.{cases}
 use Rattle.rules.proofs.Standing.{inside}
 use Rattle.rules.proofs.Characters.{character_stands}
 use Rattle.rules.proofs.Names.{name_from, name_ended, name_goes_on}
@@ -101,19 +100,6 @@ module _ (d : List ℕ) (start at : ℕ) where
   brackets_done h = let e : 255 - (at - start) ≡ 0 = omega arith in rw e h
 
 -- ---- the places of a field type
-
-pub two_places : (first : ℕ) → (eqb first long_type || eqb first double_type) ≡ true → 2 ≡ places (kind_of first)
-two_places first h = ⊎_elim (λ e. rw e) (λ e. cases Two (eqb first long_type) long _ (λ _. refl) (λ _. rw e)) (or_true (eqb first long_type) (eqb first double_type) h)
-  where
-    Two : Kind → Type 0
-    Two k = 2 ≡ places k
-
-pub one_place : (first : ℕ) → (eqb first long_type || eqb first double_type) ≡ false → 1 ≡ places (kind_of first)
-one_place first h = let (l, m) = or_false (eqb first long_type) (eqb first double_type) h in
-    rw (l, m) (cases One (eqb first float_type) float _ (λ _. refl) (λ _. cases One (eqb first class_type || eqb first array_type) reference int (λ _. refl) (λ _. refl)))
-  where
-    One : Kind → Type 0
-    One k = 1 ≡ places k
 
 at_most_two : (k : Kind) → places k ≤ 2
 at_most_two int = omega arith

@@ -25,7 +25,7 @@ struct Parameters {
 // The parameters of a method have at most so many places.
 const PLACES: u32 = 255;
 
-// The parameters, from offset 1 on; none where they have more places than a method may have.
+// The parameters, from offset 1 on; none where they have more places than a method may have. They differ in length, so an offset goes from one to the next.
 fn read_parameters(d: &[u8]) -> Option<Parameters>
     requires { 1 ≤ length d.now }
     ensures { Counted d.now result }

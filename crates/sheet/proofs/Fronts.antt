@@ -1,11 +1,10 @@
 -- A list written from its front on, word by word. Assumes nothing.
-use Prim.Native.Nat.{ℕ, zero, suc, ◌+◌, ◌-◌, ◌*◌, ◌≤◌, ◌<◌}
+use Prim.Native.Nat.{ℕ, zero, suc, ◌+◌, ◌*◌, ◌<◌}
 use mathlib.Core.Path.{◌≡◌, sym, ap, subst, ◌∙◌}
 use mathlib.Core.List.{List, [], ◌∷◌, ◌++◌, append_assoc}
 use native.Mathlib.Omega.{arith}
 use native.Mathlib.Numerals.{add-one}
-use native.Mathlib.Nat.{sub-zero}
-use lib.ListN.{length, drop, set, get_or, replicate, replicate-append-replicate}
+use lib.ListN.{length, drop, set, get_or}
 use lib.Seq.{drop-cons, set-append_seam}
 use Rattle.rules.specs.Fetch.{u32}
 use Rattle.rules.specs.Sheet.{arguments_from}
@@ -20,17 +19,6 @@ here xs t v h =
 
 pub front_set : (xs t : List ℕ) (i v : ℕ) → length xs ≡ i → i < length t → set (xs ++ drop i t) i v ≡ (xs ++ (v ∷ [])) ++ drop (i + 1) t
 front_set xs t i v e h = subst (λ (k : ℕ). k < length t → set (xs ++ drop k t) k v ≡ (xs ++ (v ∷ [])) ++ drop (k + 1) t) e (here xs t v) h
-
-abbrev pub zeros : ℕ → List ℕ
-zeros n = replicate n 0
-
-pub one_more_zero : (i : ℕ) → zeros i ++ zeros 1 ≡ zeros (i + 1)
-one_more_zero i = replicate-append-replicate i 1 0
-
-pub drop_zeros : (n k : ℕ) (ys : List ℕ) → k ≤ n → drop k (zeros n ++ ys) ≡ zeros (n - k) ++ ys
-drop_zeros n zero ys h = rw (sub-zero n)
-drop_zeros zero (suc k) ys h = absurd (omega arith)
-drop_zeros (suc n) (suc k) ys h = let e : n - k ≡ suc n - suc k = omega arith in drop_zeros n k ys (omega arith) ∙ ap (λ (m : ℕ). zeros m ++ ys) e
 
 module _ (sheet : List ℕ) where
   pub one_more_argument : (at n : ℕ) → arguments_from sheet at n ++ (u32 sheet (at + 4 * n) ∷ []) ≡ arguments_from sheet at (n + 1)

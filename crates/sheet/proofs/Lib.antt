@@ -1,4 +1,4 @@
--- Laws for this crate's functions; Answers is cited by workbook too
-pub mod Answers
-mod Constants
+-- Laws for this crate's functions
+mod Answers
 mod Fronts
+mod Passed

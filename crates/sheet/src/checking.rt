@@ -1,11 +1,57 @@
 // The whole sheet, record by record, and the memory that its method asks for.
-ghost use Rattle.std.specs.Prelude.{◌≡◌, ◌||◌, length};
+ghost use Rattle.std.specs.Prelude.{◌≡◌, ◌≤◌, ◌||◌, length};
 ghost use Rattle.rules.specs.Check.{◌=ⁿ◌, ◌<ⁿ◌};
-ghost use Rattle.rules.specs.Sheet.{unread, sheet_check, memory_check};
+ghost use Rattle.rules.specs.Sheet.{record_end, contents_read, marked_check, record_check, unread, sheet_check, memory_check};
 
-use crate::marks::ends_sheet;
-use crate::records::{body_length, check_record};
-use rules::{Reading, Refusal};
+use crate::contents::{read_arguments, read_code, read_constant, read_sizes, read_types};
+use crate::handler_records::read_handler;
+use crate::marks::{ends_sheet, known_mark, may_follow, right_length};
+use crate::records::{NextRecord, Records};
+use rules::{Mark, Reading, Refusal};
+
+// What a record of this mark says, where its contents are good.
+fn read_contents(next: &NextRecord, mark: Mark) -> Result<Reading, Refusal>
+    requires { record_end next.now.record.sheet.now next.now.record.at ≤ length next.now.record.sheet.now }
+    ensures { result ≡ contents_read next.now.record.sheet.now next.now.record.at next.now.before mark }
+{
+    match mark {
+        Mark::LM => read_sizes(next),
+        Mark::DS => read_types(next),
+        Mark::CD => read_code(next),
+        Mark::KI => read_constant(next),
+        Mark::EX => read_handler(next),
+        Mark::AR => read_arguments(next),
+    }
+}
+
+// A record whose mark is known: its place, its length and its contents.
+fn check_marked(next: &NextRecord, mark: Mark) -> Result<Reading, Refusal>
+    requires { record_end next.now.record.sheet.now next.now.record.at ≤ length next.now.record.sheet.now }
+    ensures { result ≡ marked_check next.now.record.sheet.now next.now.record.at next.now.before mark }
+{
+    if !may_follow(mark, next.before.last) {
+        return Err(Refusal::RecordOrder);
+    }
+    if !right_length(mark, next.record.body_length()) {
+        return Err(Refusal::RecordLength);
+    }
+    read_contents(next, mark)
+}
+
+// The next record, after what has been read before it.
+fn check_record(next: &NextRecord) -> Result<Reading, Refusal>
+    ensures { result ≡ record_check next.now.record.sheet.now next.now.record.at next.now.before }
+{
+    let length = next.record.sheet.len();
+    if length < next.record.body() {
+        return Err(Refusal::RecordCut);
+    }
+    if length < next.record.end() {
+        return Err(Refusal::RecordCut);
+    }
+    let mark = known_mark(next.record.mark())?;
+    check_marked(next, mark)
+}
 
 // Nothing read yet.
 fn unread() -> Reading
@@ -19,10 +65,13 @@ pub fn check_sheet(sheet: &[u8]) -> Result<Reading, Refusal>
     ensures { result ≡ sheet_check sheet.now }
 {
     let mut p = unread();
-    let mut at = 0;
-    while at < sheet.len() {
-        p = check_record(sheet, at, p)?;
-        at = at + 4 + body_length(sheet, at) as usize;
+    let records = Records {
+        sheet,
+        at: 0,
+        end: sheet.len(),
+    };
+    for record in records {
+        p = check_record(&NextRecord { record, before: p })?;
     }
     if !ends_sheet(p.last) {
         return Err(Refusal::RecordOrder);

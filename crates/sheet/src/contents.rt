@@ -2,143 +2,122 @@
 ghost use Rattle.std.specs.Prelude.{◌≡◌, not, ◌||◌, ◌≤◌, length};
 ghost use Rattle.rules.specs.declared.sheets.Mark.TheVariants.{LM, DS, CD, KI, AR};
 ghost use Rattle.rules.specs.Check.{◌=ⁿ◌};
-ghost use Rattle.rules.specs.Sheet.{record_end, last_index, is_described, contents_check, contents_read};
+ghost use Rattle.rules.specs.Sheet.{record_end, is_described, contents_check, contents_read};
 
-use crate::marks::{WIDE_CONSTANT, tag_suits, word_suits};
-use crate::records::body_length;
+use crate::marks::{tag_suits, word_suits};
+use crate::records::NextRecord;
 use descriptor::read_descriptor;
-use operands::{read_code_u8, read_code_u16, read_code_u32};
 use rules::{Mark, Reading, Refusal};
 
+// Where the two sizes of an LM record lie.
+const MAX_STACK: usize = 4;
+
+const MAX_LOCALS: usize = 6;
+
 // LM: the two sizes.
-pub(crate) fn read_sizes(sheet: &[u8], at: usize, p: Reading) -> Result<Reading, Refusal>
-    requires { at ≤ length sheet.now }
-    ensures { result ≡ contents_read sheet.now at p LM }
+pub(crate) fn read_sizes(next: &NextRecord) -> Result<Reading, Refusal>
+    ensures { result ≡ contents_read next.now.record.sheet.now next.now.record.at next.now.before LM }
 {
-    let body = at + 4;
     Ok(Reading {
         last: Some(Mark::LM),
-        max_stack: read_code_u16(sheet, body),
-        max_locals: read_code_u16(sheet, body + 2),
-        ..p
+        max_stack: next.record.u16_at(MAX_STACK),
+        max_locals: next.record.u16_at(MAX_LOCALS),
+        ..next.before
     })
 }
 
 // DS: the places of the parameters, and the return type.
-pub(crate) fn read_types(sheet: &[u8], at: usize, p: Reading) -> Result<Reading, Refusal>
-    requires { record_end sheet.now at ≤ length sheet.now }
-    ensures { result ≡ contents_read sheet.now at p DS }
+pub(crate) fn read_types(next: &NextRecord) -> Result<Reading, Refusal>
+    requires { record_end next.now.record.sheet.now next.now.record.at ≤ length next.now.record.sheet.now }
+    ensures { result ≡ contents_read next.now.record.sheet.now next.now.record.at next.now.before DS }
 {
-    let start = at + 4;
-    let end = start + body_length(sheet, at) as usize;
-    let described = read_descriptor(&sheet[start..end])?;
+    let described = read_descriptor(next.record.descriptor())?;
     Ok(Reading {
         last: Some(Mark::DS),
         parameter_places: described.places,
         return_type: described.return_type,
-        ..p
+        ..next.before
     })
 }
 
 // CD: where the code lies.
-pub(crate) fn read_code(sheet: &[u8], at: usize, p: Reading) -> Result<Reading, Refusal>
-    requires { at ≤ length sheet.now }
-    ensures { result ≡ contents_read sheet.now at p CD }
+pub(crate) fn read_code(next: &NextRecord) -> Result<Reading, Refusal>
+    ensures { result ≡ contents_read next.now.record.sheet.now next.now.record.at next.now.before CD }
 {
-    let code = at + 4;
-    let code_length = body_length(sheet, at) as usize;
     Ok(Reading {
         last: Some(Mark::CD),
-        code,
-        code_length,
-        handlers: code + code_length,
-        ..p
+        code: next.record.body(),
+        code_length: next.record.body_length() as usize,
+        handlers: next.record.end(),
+        ..next.before
     })
 }
 
-// The last pool index that a KI record uses: a long or a double uses two.
-fn last_index(sheet: &[u8], at: usize) -> u32
-    requires { at ≤ length sheet.now }
-    ensures { result ≡ last_index sheet.now at }
-{
-    let index = read_code_u16(sheet, at + 4) as u32;
-    if body_length(sheet, at) == WIDE_CONSTANT {
-        index + 1
-    } else {
-        index
-    }
-}
-
 // KI: its tag, the word of a class, and its indices above all used.
-fn check_constant(sheet: &[u8], at: usize, p: Reading) -> Result<(), Refusal>
-    requires { at ≤ length sheet.now }
-    ensures { result ≡ contents_check sheet.now at p KI }
+fn check_constant(next: &NextRecord) -> Result<(), Refusal>
+    ensures { result ≡ contents_check next.now.record.sheet.now next.now.record.at next.now.before KI }
 {
-    let body = at + 4;
-    let tag = read_code_u8(sheet, body + 2);
-    let size = body_length(sheet, at);
+    let tag = next.record.tag();
+    let size = next.record.body_length();
     if !tag_suits(tag, size) {
         return Err(Refusal::ConstantRecord);
     }
-    if !word_suits(tag, read_code_u32(sheet, body + 3)) {
+    if !word_suits(tag, next.record.word()) {
         return Err(Refusal::ConstantRecord);
     }
-    let index = read_code_u16(sheet, body) as u32;
-    if index <= p.used {
+    let index = next.record.pool_index() as u32;
+    if index <= next.before.used {
         return Err(Refusal::ConstantRecord);
     }
-    if last_index(sheet, at) > 65535 {
+    if next.record.last_index() > 65535 {
         return Err(Refusal::ConstantRecord);
     }
     Ok(())
 }
 
 // KI: a constant, and the last index that it uses.
-pub(crate) fn read_constant(sheet: &[u8], at: usize, p: Reading) -> Result<Reading, Refusal>
-    requires { at ≤ length sheet.now }
-    ensures { result ≡ contents_read sheet.now at p KI }
+pub(crate) fn read_constant(next: &NextRecord) -> Result<Reading, Refusal>
+    ensures { result ≡ contents_read next.now.record.sheet.now next.now.record.at next.now.before KI }
 {
-    check_constant(sheet, at, p)?;
+    check_constant(next)?;
     Ok(Reading {
         last: Some(Mark::KI),
-        used: last_index(sheet, at),
-        handlers: at + 4 + body_length(sheet, at) as usize,
-        ..p
+        used: next.record.last_index(),
+        handlers: next.record.end(),
+        ..next.before
     })
 }
 
 // Whether a number of argument words is what the descriptor's parameters take, if there is a descriptor.
-fn is_taken(p: Reading, count: u16) -> bool
-    ensures { result ≡ (not (is_described p) || (count =ⁿ p.parameter_places)) }
+fn is_taken(p: &Reading, count: u16) -> bool
+    ensures { result ≡ (not (is_described p.now) || (count =ⁿ p.now.parameter_places)) }
 {
     p.return_type == 0 || count as u32 == p.parameter_places
 }
 
 // AR: at most as many words as there are locals, and as many as the parameters take.
-fn check_arguments(sheet: &[u8], at: usize, p: Reading) -> Result<(), Refusal>
-    requires { at ≤ length sheet.now }
-    ensures { result ≡ contents_check sheet.now at p AR }
+fn check_arguments(next: &NextRecord) -> Result<(), Refusal>
+    ensures { result ≡ contents_check next.now.record.sheet.now next.now.record.at next.now.before AR }
 {
-    let count = body_length(sheet, at) / 4;
-    if count > p.max_locals {
+    let count = next.record.body_length() / 4;
+    if count > next.before.max_locals {
         return Err(Refusal::TooManyArguments);
     }
-    if !is_taken(p, count) {
+    if !is_taken(&next.before, count) {
         return Err(Refusal::Descriptor);
     }
     Ok(())
 }
 
 // AR: where the argument words lie.
-pub(crate) fn read_arguments(sheet: &[u8], at: usize, p: Reading) -> Result<Reading, Refusal>
-    requires { at ≤ length sheet.now }
-    ensures { result ≡ contents_read sheet.now at p AR }
+pub(crate) fn read_arguments(next: &NextRecord) -> Result<Reading, Refusal>
+    ensures { result ≡ contents_read next.now.record.sheet.now next.now.record.at next.now.before AR }
 {
-    check_arguments(sheet, at, p)?;
+    check_arguments(next)?;
     Ok(Reading {
         last: Some(Mark::AR),
-        arguments: at + 4,
-        argument_count: body_length(sheet, at) as usize / 4,
-        ..p
+        arguments: next.record.body(),
+        argument_count: next.record.body_length() as usize / 4,
+        ..next.before
     })
 }

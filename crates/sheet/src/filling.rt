@@ -1,115 +1,69 @@
 // The lent memory of an accepted sheet: the constant pool over its whole length, and the words of the frame.
-ghost use Rattle.std.specs.Prelude.{◌≡◌, ◌++◌, ◌+◌, ◌-◌, ◌*◌, ◌≤◌, length, drop, set, replicate};
-ghost use Rattle.rules.specs.Sheet.{with_kind, with_words, pool_from, clear, arguments_from, loaded_slots};
+ghost use Rattle.std.specs.Prelude.{◌≡◌, ◌+◌, ◌*◌, ◌≤◌, length, set};
+ghost use Rattle.rules.specs.Sheet.{with_kind, with_words, clear, arguments_from, loaded_slots};
 ghost use Rattle.sheet.specs.Filled.{pool};
+ghost use Rattle.sheet.specs.Records.{with_constants};
 
-use crate::marks::WIDE_CONSTANT;
-use crate::records::body_length;
-use operands::{read_code_u8, read_code_u16, read_code_u32};
+use crate::records::{Record, Records};
+use operands::read_code_u32;
 use rules::Reading;
 
-// Zeros over all bytes.
-fn clear_bytes(target: &mut [u8])
-    ensures { target.new ≡ replicate (length target.old) 0 }
-{
-    let mut i = 0;
-    while i < target.len() {
-        target[i] = 0;
-        i += 1;
-    }
-}
-
-// Zeros over the first n words.
-fn clear_words(target: &mut [u32], n: usize)
-    requires { n ≤ length target.old }
-    ensures { target.new ≡ replicate n 0 ++ drop n target.old }
-{
-    let mut i = 0;
-    while i < n {
-        target[i] = 0;
-        i += 1;
-    }
-}
-
-// A byte at an index, if there is such a place.
-fn put_byte(target: &mut [u8], index: usize, byte: u8)
-    ensures { target.new ≡ set target.old index byte }
+// A value at an index, if there is such a place.
+fn put<T: Copy>(target: &mut [T], index: usize, value: T)
+    ensures { target.new ≡ set target.old index value }
 {
     if index < target.len() {
-        target[index] = byte;
-    }
-}
-
-// A word at an index, if there is such a place.
-fn put_word(target: &mut [u32], index: usize, word: u32)
-    ensures { target.new ≡ set target.old index word }
-{
-    if index < target.len() {
-        target[index] = word;
+        target[index] = value;
     }
 }
 
 // The kind of a KI record.
-fn enter_kind(sheet: &[u8], at: usize, kinds: &mut [u8])
-    requires { at ≤ length sheet.now }
-    ensures { kinds.new ≡ with_kind sheet.now at kinds.old }
+fn enter_kind(constant: &Record, kinds: &mut [u8])
+    ensures { kinds.new ≡ with_kind constant.now.sheet.now constant.now.at kinds.old }
 {
-    let body = at + 4;
-    let index = read_code_u16(sheet, body) as usize;
-    let tag = read_code_u8(sheet, body + 2);
-    put_byte(kinds, index, tag);
+    put(kinds, constant.pool_index() as usize, constant.tag());
 }
 
 // The words of a KI record: a value of eight bytes has its high word first.
-fn enter_words(sheet: &[u8], at: usize, words: &mut [u32])
-    requires { at ≤ length sheet.now }
-    ensures { words.new ≡ with_words sheet.now at words.old }
+fn enter_words(constant: &Record, words: &mut [u32])
+    ensures { words.new ≡ with_words constant.now.sheet.now constant.now.at words.old }
 {
-    let body = at + 4;
-    let index = read_code_u16(sheet, body) as usize;
-    let first = read_code_u32(sheet, body + 3);
-    if body_length(sheet, at) == WIDE_CONSTANT {
-        let second = read_code_u32(sheet, body + 7);
-        put_word(words, index, second);
-        put_word(words, index + 1, first);
-        return;
+    let index = constant.pool_index() as usize;
+    let first = constant.word();
+    if constant.is_wide() {
+        put(words, index, constant.second_word());
+        put(words, index + 1, first);
+    } else {
+        put(words, index, first);
     }
-    put_word(words, index, first);
 }
 
-// The constants of the KI records from an offset on up to an end.
-fn enter_constants(sheet: &[u8], start: usize, end: usize, kinds: &mut [u8], words: &mut [u32])
-    requires { end ≤ length sheet.now }
-    ensures { pool kinds.new words.new ≡ pool_from (end - start) sheet.now start end (pool kinds.old words.old) }
+// The constants of KI records.
+fn enter_constants(constants: Records, kinds: &mut [u8], words: &mut [u32])
+    ensures { pool kinds.new words.new ≡ with_constants constants.entry (pool kinds.old words.old) }
 {
-    let mut at = start;
-    while at < end {
-        enter_kind(sheet, at, kinds);
-        enter_words(sheet, at, words);
-        at = at + 4 + body_length(sheet, at) as usize;
+    for constant in constants {
+        enter_kind(&constant, kinds);
+        enter_words(&constant, words);
     }
 }
 
 // The pool of these constants, over its whole length.
-pub(crate) fn fill_pool(sheet: &[u8], start: usize, end: usize, kinds: &mut [u8], words: &mut [u32])
-    requires { end ≤ length sheet.now }
-    ensures { pool kinds.new words.new ≡ pool_from (end - start) sheet.now start end (clear kinds.old words.old) }
+pub(crate) fn fill_pool(constants: Records, kinds: &mut [u8], words: &mut [u32])
+    ensures { pool kinds.new words.new ≡ with_constants constants.entry (clear kinds.old words.old) }
 {
-    let n = words.len();
-    clear_bytes(kinds);
-    clear_words(words, n);
-    enter_constants(sheet, start, end, kinds, words);
+    kinds.fill(0);
+    words.fill(0);
+    enter_constants(constants, kinds, words);
 }
 
-// The argument words, in the first slots.
-fn write_arguments(sheet: &[u8], at: usize, slots: &mut [u32], count: usize)
-    requires { (at + 4 * count ≤ length sheet.now) × (count ≤ length slots.old) }
-    ensures { slots.new ≡ arguments_from sheet.now at count ++ drop count slots.old }
+// The argument words, one in each slot.
+fn write_arguments(sheet: &[u8], at: usize, slots: &mut [u32])
+    requires { at + 4 * length slots.old ≤ length sheet.now }
+    ensures { slots.new ≡ arguments_from sheet.now at (length slots.old) }
 {
-    let mut i = 0;
-    while i < count {
-        slots[i] = read_code_u32(sheet, at + 4 * i);
-        i += 1;
+    for (i, slot) in slots.iter_mut().enumerate() {
+        *slot = read_code_u32(sheet, at + 4 * i);
     }
 }
 
@@ -118,6 +72,7 @@ pub(crate) fn fill_slots(sheet: &[u8], p: Reading, slots: &mut [u32])
     requires { (p.arguments + 4 * p.argument_count ≤ length sheet.now) × (p.argument_count ≤ p.max_locals) × (p.max_locals + p.max_stack ≤ length slots.old) }
     ensures { slots.new ≡ loaded_slots sheet.now p slots.old }
 {
-    clear_words(slots, p.max_locals as usize + p.max_stack as usize);
-    write_arguments(sheet, p.arguments, slots, p.argument_count);
+    let end = p.max_locals as usize + p.max_stack as usize;
+    write_arguments(sheet, p.arguments, &mut slots[..p.argument_count]);
+    slots[p.argument_count..end].fill(0);
 }

@@ -1,81 +1,69 @@
 // EX records: the handlers of the method (JVMS 4.7.3).
-ghost use Rattle.std.specs.Prelude.{◌≡◌, ◌+◌, ◌-◌, ◌≤◌, length};
+ghost use Rattle.std.specs.Prelude.{◌≡◌};
 ghost use Rattle.rules.specs.declared.sheets.Mark.TheVariants.{EX};
-ghost use Rattle.rules.specs.Sheet.{is_class_at, class_from, is_catch_type, contents_check, contents_read};
+ghost use Rattle.rules.specs.Sheet.{is_catch_type, contents_check, contents_read};
 
-use crate::marks::CONSTANT_CLASS;
-use crate::records::body_length;
-use operands::{read_code_u8, read_code_u16};
+use crate::records::{NextRecord, Records};
 use rules::{Mark, Reading, Refusal};
 
-// Whether a KI record is that of a class with this index.
-fn is_class_at(sheet: &[u8], at: usize, index: u16) -> bool
-    requires { at ≤ length sheet.now }
-    ensures { result ≡ is_class_at sheet.now at index }
-{
-    let body = at + 4;
-    read_code_u16(sheet, body) == index && read_code_u8(sheet, body + 2) == CONSTANT_CLASS
-}
+// Where the four fields of an EX record lie.
+const START_PC: usize = 4;
 
-// Whether one of the KI records from an offset on up to an end is such a record.
-fn is_class(sheet: &[u8], start: usize, end: usize, index: u16) -> bool
-    requires { end ≤ length sheet.now }
-    ensures { result ≡ class_from (end - start) sheet.now start end index }
+const END_PC: usize = 6;
+
+const HANDLER_PC: usize = 8;
+
+const CATCH_TYPE: usize = 10;
+
+// Whether a catch type is 0 or the index of a class, of which the KI records between the code and the handlers say which they are.
+fn is_catch_type(next: &NextRecord, catch_type: u16) -> bool
+    ensures { result ≡ is_catch_type next.now.record.sheet.now next.now.before catch_type }
 {
-    let mut at = start;
-    while at < end {
-        if is_class_at(sheet, at, index) {
-            return true;
-        }
-        at = at + 4 + body_length(sheet, at) as usize;
+    if catch_type == 0 {
+        return true;
     }
-    false
-}
-
-// Whether a catch type is 0 or the index of a class.
-fn is_catch_type(sheet: &[u8], p: Reading, catch_type: u16) -> bool
-    requires { (p.code + p.code_length ≤ p.handlers) × (p.handlers ≤ length sheet.now) }
-    ensures { result ≡ is_catch_type sheet.now p catch_type }
-{
-    catch_type == 0 || is_class(sheet, p.code + p.code_length, p.handlers, catch_type)
+    let constants = Records {
+        sheet: next.record.sheet,
+        at: next.before.code + next.before.code_length,
+        end: next.before.handlers,
+    };
+    constants.has_class(catch_type)
 }
 
 // Eight bytes; start below end; start and handler inside the code, and end at most its length; a catch type.
-fn check_handler(sheet: &[u8], at: usize, p: Reading) -> Result<(), Refusal>
-    requires { (p.code + p.code_length ≤ p.handlers) × (p.handlers ≤ at) × (at ≤ length sheet.now) }
-    ensures { result ≡ contents_check sheet.now at p EX }
+fn check_handler(next: &NextRecord) -> Result<(), Refusal>
+    ensures { result ≡ contents_check next.now.record.sheet.now next.now.record.at next.now.before EX }
 {
-    if body_length(sheet, at) != 8 {
+    if next.record.body_length() != 8 {
         return Err(Refusal::HandlerRecord);
     }
-    let start = read_code_u16(sheet, at + 4);
-    let end = read_code_u16(sheet, at + 6);
+    let start = next.record.u16_at(START_PC);
+    let end = next.record.u16_at(END_PC);
     if end <= start {
         return Err(Refusal::HandlerRecord);
     }
-    if p.code_length <= start as usize {
+    if next.before.code_length <= start as usize {
         return Err(Refusal::HandlerRecord);
     }
-    if p.code_length <= read_code_u16(sheet, at + 8) as usize {
+    if next.before.code_length <= next.record.u16_at(HANDLER_PC) as usize {
         return Err(Refusal::HandlerRecord);
     }
-    if p.code_length < end as usize {
+    if next.before.code_length < end as usize {
         return Err(Refusal::HandlerRecord);
     }
-    if !is_catch_type(sheet, p, read_code_u16(sheet, at + 10)) {
+    if !is_catch_type(next, next.record.u16_at(CATCH_TYPE)) {
         return Err(Refusal::HandlerRecord);
     }
     Ok(())
 }
 
 // EX: nothing but that the record has been read; where the handlers begin is known from the record before them.
-pub(crate) fn read_handler(sheet: &[u8], at: usize, p: Reading) -> Result<Reading, Refusal>
-    requires { (p.code + p.code_length ≤ p.handlers) × (p.handlers ≤ at) × (at ≤ length sheet.now) }
-    ensures { result ≡ contents_read sheet.now at p EX }
+pub(crate) fn read_handler(next: &NextRecord) -> Result<Reading, Refusal>
+    ensures { result ≡ contents_read next.now.record.sheet.now next.now.record.at next.now.before EX }
 {
-    check_handler(sheet, at, p)?;
+    check_handler(next)?;
     Ok(Reading {
         last: Some(Mark::EX),
-        ..p
+        ..next.before
     })
 }

@@ -5,6 +5,7 @@ ghost use Rattle.sheet.specs.Filled.{after_load};
 
 use crate::checking::{check_memory, check_sheet};
 use crate::filling::{fill_pool, fill_slots};
+use crate::records::Records;
 use rules::{Loaded, Reading, Refusal, State};
 
 // The state of a method that is loaded. Every first state is made here.
@@ -64,7 +65,12 @@ pub fn load_read(
     if let Err(refusal) = check_memory(p, slots, kinds, words) {
         return refused_load(refusal);
     }
-    fill_pool(sheet, p.code + p.code_length, p.handlers, kinds, words);
+    let constants = Records {
+        sheet,
+        at: p.code + p.code_length,
+        end: p.handlers,
+    };
+    fill_pool(constants, kinds, words);
     fill_slots(sheet, p, slots);
     accepted_load(p)
 }
@@ -83,14 +89,10 @@ pub fn load(sheet: &[u8], slots: &mut [u32], kinds: &mut [u8], words: &mut [u32]
 fn part_of(sheet: &[u8], start: usize, count: usize) -> &[u8]
     ensures { result.now ≡ part_of sheet.now start count }
 {
-    if sheet.len() < start {
+    let Some(end) = start.checked_add(count) else {
         return &sheet[..0];
-    }
-    if sheet.len() - start < count {
-        return &sheet[..0];
-    }
-    let end = start + count;
-    &sheet[start..end]
+    };
+    sheet.get(start..end).unwrap_or(&sheet[..0])
 }
 
 // The code that a load found, as the very part of the sheet that holds it; of a load of another sheet that points past this one, the empty part.

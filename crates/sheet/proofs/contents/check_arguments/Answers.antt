@@ -1,21 +1,20 @@
 -- `check_arguments` meets its contract. Assumes nothing.
 use mathlib.Core.Path.{sym, ◌∙◌}
-use borrow.Author.Tests.{not-true, not-false}
 use Rattle.rules.proofs.Sheet.{too_many, wrong_count, arguments_read}
 use Rattle.sheet.proofs.contents.check_arguments.Goals as goal
 
-pub returns-then-count-p : goal.returns-then-count-p
-returns-then-count-p c = let a = c.args in
-    sym ((too_many a.sheet.now a.at a.p (rw c.body_length-count.ensures at c.if-count-p.true)))
+pub returns-then-count-next : goal.returns-then-count-next
+returns-then-count-next c = let n = c.args.next.now in
+    sym (too_many n.record.sheet.now n.record.at n.before (rw c.body_length-count.ensures at c.if-count-next.true))
 
 pub returns-then-not-is_taken : goal.returns-then-not-is_taken
-returns-then-not-is_taken c = let a = c.args in
-    let few = rw c.body_length-count.ensures at c.if-count-p.false in
-    let wrong = rw c.body_length-count.ensures at (sym c.is_taken.ensures ∙ not-true _ c.if-not-is_taken.true-raw) in
-    sym ((wrong_count a.sheet.now a.at a.p few wrong))
+returns-then-not-is_taken c = let n = c.args.next.now in
+    let few = rw c.body_length-count.ensures at c.if-count-next.false in
+    let wrong = rw c.body_length-count.ensures at (sym c.is_taken.ensures ∙ c.if-not-is_taken.true) in
+    sym (wrong_count n.record.sheet.now n.record.at n.before few wrong)
 
 pub returns : goal.returns
-returns c = let a = c.args in
-    let few = rw c.body_length-count.ensures at c.if-count-p.false in
-    let right = rw c.body_length-count.ensures at (sym c.is_taken.ensures ∙ not-false _ c.if-not-is_taken.false-raw) in
-    sym ((arguments_read a.sheet.now a.at a.p few right))
+returns c = let n = c.args.next.now in
+    let few = rw c.body_length-count.ensures at c.if-count-next.false in
+    let right = rw c.body_length-count.ensures at (sym c.is_taken.ensures ∙ c.if-not-is_taken.false) in
+    sym (arguments_read n.record.sheet.now n.record.at n.before few right)

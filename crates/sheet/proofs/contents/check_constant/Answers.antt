@@ -1,39 +1,38 @@
 -- `check_constant` meets its contract. Assumes nothing.
 use mathlib.Core.Path.{sym, ◌∙◌}
-use borrow.Author.Tests.{not-true, not-false}
 use Rattle.rules.proofs.Sheet.{tag_unfit, word_unfit, index_used, index_past, constant_read}
 use Rattle.sheet.proofs.contents.check_constant.Goals as goal
 
 pub returns-then-not-tag_suits : goal.returns-then-not-tag_suits
-returns-then-not-tag_suits c = let a = c.args in
-    let suits = rw (c.read_code_u8-tag.ensures, c.body_length-size.ensures) at (sym c.tag_suits.ensures ∙ not-true _ c.if-not-tag_suits.true-raw) in
-    sym ((tag_unfit a.sheet.now a.at a.p suits))
+returns-then-not-tag_suits c = let n = c.args.next.now in
+    let suits = rw (c.tag-tag.ensures, c.body_length-size.ensures) at (sym c.tag_suits.ensures ∙ c.if-not-tag_suits.true) in
+    sym (tag_unfit n.record.sheet.now n.record.at n.before suits)
 
 pub returns-then-not-word_suits : goal.returns-then-not-word_suits
-returns-then-not-word_suits c = let a = c.args in
-    let suits = rw (c.read_code_u8-tag.ensures, c.body_length-size.ensures) at (sym c.tag_suits.ensures ∙ not-false _ c.if-not-tag_suits.false-raw) in
-    let word = rw (c.read_code_u8-tag.ensures, c.read_code_u32.ensures) at (sym c.word_suits.ensures ∙ not-true _ c.if-not-word_suits.true-raw) in
-    sym ((word_unfit a.sheet.now a.at a.p suits word))
+returns-then-not-word_suits c = let n = c.args.next.now in
+    let suits = rw (c.tag-tag.ensures, c.body_length-size.ensures) at (sym c.tag_suits.ensures ∙ c.if-not-tag_suits.false) in
+    let word = rw (c.tag-tag.ensures, c.word.ensures) at (sym c.word_suits.ensures ∙ c.if-not-word_suits.true) in
+    sym (word_unfit n.record.sheet.now n.record.at n.before suits word)
 
-pub returns-then-index-p : goal.returns-then-index-p
-returns-then-index-p c = let a = c.args in
-    let suits = rw (c.read_code_u8-tag.ensures, c.body_length-size.ensures) at (sym c.tag_suits.ensures ∙ not-false _ c.if-not-tag_suits.false-raw) in
-    let word = rw (c.read_code_u8-tag.ensures, c.read_code_u32.ensures) at (sym c.word_suits.ensures ∙ not-false _ c.if-not-word_suits.false-raw) in
-    let used = rw c.read_code_u16-index.ensures at c.if-index-p.true in
-    sym ((index_used a.sheet.now a.at a.p suits word used))
+pub returns-then-index-next : goal.returns-then-index-next
+returns-then-index-next c = let n = c.args.next.now in
+    let suits = rw (c.tag-tag.ensures, c.body_length-size.ensures) at (sym c.tag_suits.ensures ∙ c.if-not-tag_suits.false) in
+    let word = rw (c.tag-tag.ensures, c.word.ensures) at (sym c.word_suits.ensures ∙ c.if-not-word_suits.false) in
+    let used = rw c.pool_index-index.ensures at c.if-index-next.true in
+    sym (index_used n.record.sheet.now n.record.at n.before suits word used)
 
 pub returns-then-last_index-gt65535 : goal.returns-then-last_index-gt65535
-returns-then-last_index-gt65535 c = let a = c.args in
-    let suits = rw (c.read_code_u8-tag.ensures, c.body_length-size.ensures) at (sym c.tag_suits.ensures ∙ not-false _ c.if-not-tag_suits.false-raw) in
-    let word = rw (c.read_code_u8-tag.ensures, c.read_code_u32.ensures) at (sym c.word_suits.ensures ∙ not-false _ c.if-not-word_suits.false-raw) in
-    let above = rw c.read_code_u16-index.ensures at c.if-index-p.false in
+returns-then-last_index-gt65535 c = let n = c.args.next.now in
+    let suits = rw (c.tag-tag.ensures, c.body_length-size.ensures) at (sym c.tag_suits.ensures ∙ c.if-not-tag_suits.false) in
+    let word = rw (c.tag-tag.ensures, c.word.ensures) at (sym c.word_suits.ensures ∙ c.if-not-word_suits.false) in
+    let above = rw c.pool_index-index.ensures at c.if-index-next.false in
     let past = rw c.last_index.ensures at c.if-last_index-gt65535.true in
-    sym ((index_past a.sheet.now a.at a.p suits word above past))
+    sym (index_past n.record.sheet.now n.record.at n.before suits word above past)
 
 pub returns : goal.returns
-returns c = let a = c.args in
-    let suits = rw (c.read_code_u8-tag.ensures, c.body_length-size.ensures) at (sym c.tag_suits.ensures ∙ not-false _ c.if-not-tag_suits.false-raw) in
-    let word = rw (c.read_code_u8-tag.ensures, c.read_code_u32.ensures) at (sym c.word_suits.ensures ∙ not-false _ c.if-not-word_suits.false-raw) in
-    let above = rw c.read_code_u16-index.ensures at c.if-index-p.false in
+returns c = let n = c.args.next.now in
+    let suits = rw (c.tag-tag.ensures, c.body_length-size.ensures) at (sym c.tag_suits.ensures ∙ c.if-not-tag_suits.false) in
+    let word = rw (c.tag-tag.ensures, c.word.ensures) at (sym c.word_suits.ensures ∙ c.if-not-word_suits.false) in
+    let above = rw c.pool_index-index.ensures at c.if-index-next.false in
     let there = rw c.last_index.ensures at c.if-last_index-gt65535.false in
-    sym ((constant_read a.sheet.now a.at a.p suits word above there))
+    sym (constant_read n.record.sheet.now n.record.at n.before suits word above there)

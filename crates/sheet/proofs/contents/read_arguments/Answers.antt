@@ -7,11 +7,11 @@ use Rattle.rules.proofs.Sheet.{bad_contents, good_contents}
 use Rattle.sheet.proofs.contents.read_arguments.Goals as goal
 
 pub returns-in_err-check_arguments : goal.returns-in_err-check_arguments
-returns-in_err-check_arguments c = let a = c.args in
+returns-in_err-check_arguments c = let n = c.args.next.now in
     let e = err_from_is_err_and c.from_residual.result c.from_residual.ensures.1 in
-    rw (e.1, e.2) (sym (bad_contents a.sheet.now a.at a.p AR _ (sym c.in_err-check_arguments.ensures)))
+    rw (e.1, e.2) (sym (bad_contents n.record.sheet.now n.record.at n.before AR _ (sym c.in_err-check_arguments.ensures)))
 
 pub returns : goal.returns
 unfolding with_record
-returns c = let a = c.args in
-    sym (good_contents a.sheet.now a.at a.p AR (sym c.in_ok-check_arguments.ensures) ∙ simp (← c.body_length.ensures))
+returns c = let n = c.args.next.now in
+    sym (good_contents n.record.sheet.now n.record.at n.before AR (sym c.in_ok-check_arguments.ensures) ∙ simp (← c.body.ensures, ← c.body_length.ensures))

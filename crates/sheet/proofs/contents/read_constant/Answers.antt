@@ -7,11 +7,11 @@ use Rattle.rules.proofs.Sheet.{bad_contents, good_contents}
 use Rattle.sheet.proofs.contents.read_constant.Goals as goal
 
 pub returns-in_err-check_constant : goal.returns-in_err-check_constant
-returns-in_err-check_constant c = let a = c.args in
+returns-in_err-check_constant c = let n = c.args.next.now in
     let e = err_from_is_err_and c.from_residual.result c.from_residual.ensures.1 in
-    rw (e.1, e.2) (sym (bad_contents a.sheet.now a.at a.p KI _ (sym c.in_err-check_constant.ensures)))
+    rw (e.1, e.2) (sym (bad_contents n.record.sheet.now n.record.at n.before KI _ (sym c.in_err-check_constant.ensures)))
 
 pub returns : goal.returns
 unfolding with_record
-returns c = let a = c.args in
-    sym (good_contents a.sheet.now a.at a.p KI (sym c.in_ok-check_constant.ensures) ∙ simp (← c.last_index.ensures, ← c.body_length.ensures))
+returns c = let n = c.args.next.now in
+    sym (good_contents n.record.sheet.now n.record.at n.before KI (sym c.in_ok-check_constant.ensures) ∙ simp (← c.last_index.ensures, ← c.end.ensures))

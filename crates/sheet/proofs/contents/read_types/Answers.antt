@@ -1,14 +1,13 @@
 -- `read_types` meets its contract. Assumes nothing.
-use Rattle.std.proofs.Common.{◌+◌}
 use Rattle.std.proofs.lemmas.Result.{err_from_is_err_and}
-use Rattle.sheet.proofs.Answers.{part_is, types_read, types_refused}
+use Rattle.sheet.proofs.Answers.{types_read, types_refused}
 use Rattle.sheet.proofs.contents.read_types.Goals as goal
 
 pub returns-in_err-described : goal.returns-in_err-described
-returns-in_err-described c = let a = c.args in
+returns-in_err-described c = let n = c.args.next.now in
     let e = err_from_is_err_and c.from_residual.result c.from_residual.ensures.1 in
-    rw (e.1, e.2) (types_refused a.sheet.now a.at a.p _ _ c.in_err-described.ensures.value (part_is a.sheet.now (a.at + 4) _ _ c.body_length.ensures))
+    rw (e.1, e.2) (types_refused n.record.sheet.now n.record.at n.before _ _ c.in_err-described.ensures.value c.descriptor.ensures)
 
 pub returns : goal.returns
-returns c = let a = c.args in
-    types_read a.sheet.now a.at a.p _ _ c.in_ok-described.ensures.value (part_is a.sheet.now (a.at + 4) _ _ c.body_length.ensures)
+returns c = let n = c.args.next.now in
+    types_read n.record.sheet.now n.record.at n.before _ _ c.in_ok-described.ensures.value c.descriptor.ensures

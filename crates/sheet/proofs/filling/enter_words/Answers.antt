@@ -1,14 +1,11 @@
 -- `enter_words` meets its contract. Assumes nothing.
-use mathlib.Core.Path.{sym, ◌∙◌}
-use Rattle.sheet.proofs.Constants.{wide_words, narrow_words}
+use Rattle.rules.specs.Sheet.{with_words}
 use Rattle.sheet.proofs.filling.enter_words.Goals as goal
 
-pub returns-then-body_length-eq-WIDE_CONSTANT : goal.returns-then-body_length-eq-WIDE_CONSTANT
-returns-then-body_length-eq-WIDE_CONSTANT c = let a = c.args in
-    rw (c.put_word-then-body_length-eq-WIDE_CONSTANT.ensures, c.put_word.ensures, c.read_code_u16-index.ensures, c.read_code_u32-first.ensures, c.read_code_u32-second.ensures)
-    (wide_words a.sheet.now a.at a.words.now (sym c.body_length.ensures ∙ c.if-body_length-eq-WIDE_CONSTANT.true))
+pub returns-then-is_wide : goal.returns-then-is_wide
+unfolding with_words
+returns-then-is_wide c = rw (c.put-then-is_wide.ensures, c.put.ensures, ← c.is_wide.ensures, c.if-is_wide.true, c.pool_index-index.ensures, c.second_word.ensures, c.word-first.ensures)
 
-pub returns : goal.returns
-returns c = let a = c.args in
-    rw (c.put_word-2.ensures, c.read_code_u16-index.ensures, c.read_code_u32-first.ensures)
-    (narrow_words a.sheet.now a.at a.words.now (λ e. c.if-body_length-eq-WIDE_CONSTANT.false (c.body_length.ensures ∙ e)))
+pub returns-else-is_wide : goal.returns-else-is_wide
+unfolding with_words
+returns-else-is_wide c = rw (c.put-else-is_wide.ensures, ← c.is_wide.ensures, c.if-is_wide.false, c.pool_index-index.ensures, c.word-first.ensures)

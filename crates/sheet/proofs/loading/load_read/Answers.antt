@@ -1,42 +1,28 @@
 -- `load_read` meets its contract. Assumes nothing.
-use Prim.Native.Nat.{◌≤◌}
 use mathlib.Core.Path.{sym, ◌∙◌}
 use native.Mathlib.Omega.{arith}
 use Rattle.rules.proofs.Sheet.{load_short, load_accepted}
-use Rattle.rules.proofs.Placement.{sheet_within}
 use Rattle.sheet.specs.Filled.{pool}
-use Rattle.rules.specs.Sheet.{last_number}
-use Rattle.sheet.proofs.Answers.{slots_reach}
+use Rattle.sheet.proofs.Answers.{slots_reach, whole}
 use Rattle.sheet.proofs.loading.load_read.Goals as goal
 
 pub returns-in-Err : goal.returns-in-Err
 returns-in-Err c = let a = c.args in
     rw c.refused_load.ensures (load_short a.sheet.now a.slots.now a.kinds.now a.words.now a.p c.requires _ (sym c.in-Err.ensures))
 
-pub overflow_add-p : goal.overflow_add-p
-overflow_add-p c = let a = c.args in
-    let (w, last) = sheet_within a.sheet.now a.p c.requires in
-    let whole : 6 ≤ last_number a.p.last = omega arith in
-    omega (arith, w.code_first, w.handlers_first whole, w.arguments_there whole)
+pub overflow_add-constants : goal.overflow_add-constants
+overflow_add-constants c = let w = whole c.args.sheet.now c.args.p c.requires in omega arith
 
-pub fill_pool-requires : goal.fill_pool-requires
-fill_pool-requires c = let a = c.args in
-    let (w, last) = sheet_within a.sheet.now a.p c.requires in
-    let whole : 6 ≤ last_number a.p.last = omega arith in
-    omega (arith, w.handlers_first whole, w.arguments_there whole)
+pub invariant_of-constants : goal.invariant_of-constants
+invariant_of-constants c = let w = whole c.args.sheet.now c.args.p c.requires in record { within = omega arith }
 
 pub fill_slots-requires : goal.fill_slots-requires
 fill_slots-requires c = let a = c.args in
-    let (w, last) = sheet_within a.sheet.now a.p c.requires in
-    let whole : 6 ≤ last_number a.p.last = omega arith in
-    let fits = slots_reach a.p a.slots.now a.kinds.now a.words.now (sym c.check_memory.ensures ∙ c.in_default.is) in
-    (w.arguments_there whole, w.few_arguments whole, fits)
+    let w = whole a.sheet.now a.p c.requires in
+    (w.arguments_there, w.few_arguments, slots_reach a.p a.slots.now a.kinds.now a.words.now (sym c.check_memory.ensures ∙ c.in_default.is))
 
 pub accepted_load-requires : goal.accepted_load-requires
-accepted_load-requires c = let a = c.args in
-    let (w, last) = sheet_within a.sheet.now a.p c.requires in
-    let whole : 6 ≤ last_number a.p.last = omega arith in
-    w.handlers_first whole
+accepted_load-requires c = (whole c.args.sheet.now c.args.p c.requires).handlers_first
 
 pub returns : goal.returns
 returns c = let a = c.args in

@@ -1,0 +1,47 @@
+-- One record passed, and the end of the records. Assumes nothing.
+use Prim.Native.Nat.{ℕ, ◌-◌, ◌≤◌, ◌<◌}
+use mathlib.Core.Path.{◌≡◌, sym}
+use native.Mathlib.Omega.{arith}
+use mathlib.Core.Bool.{false, ◌||◌}
+use lib.ListN.{length}
+use Rattle.std.specs.Prelude.{Some, Ok, Err}
+use Rattle.rules.specs.declared.refusals.Refusal.{Refusal}
+use Rattle.rules.specs.declared.sheets.Reading.{Reading}
+use Rattle.rules.specs.Sheet.{is_class_at, Pool, with_value, record_check, read_from}
+use Rattle.rules.proofs.Sheet.{class_end, next_class, pool_end, next_constant, next_record, bad_record}
+use Rattle.rules.proofs.Placement.{Placed, next_placed}
+use Rattle.sheet.specs.declared.records.Record.{Record}
+use Rattle.sheet.specs.declared.records.Records.{Records}
+use Rattle.sheet.specs.Records.{GivesRecord, has_class, with_constants}
+
+module _ (s t : Records) (r : Record) (g : GivesRecord s (Some r) t) where
+  pub class_passed : (index : ℕ) → has_class s index ≡ (is_class_at r.sheet.now r.at index || has_class t index)
+  class_passed index = rw (g.same_sheet, g.same_place, g.sheet_kept, g.end_kept, g.passed) (next_class s.sheet.now s.end index s.at g.more)
+
+  pub constant_passed : (p : Pool) → with_constants s p ≡ with_constants t (with_value r.sheet.now r.at p)
+  constant_passed p = rw (g.same_sheet, g.same_place, g.sheet_kept, g.end_kept, g.passed) (next_constant s.sheet.now s.end s.at p g.more)
+
+  module _ (whole : s.end ≡ length s.sheet.now) (p : Reading) where
+    pub record_passed : (q : Reading) → Ok q ≡ record_check r.sheet.now r.at p → read_from (s.end - s.at) s.sheet.now s.at p ≡ read_from (t.end - t.at) t.sheet.now t.at q
+    record_passed q e =
+        let f = rw (g.same_sheet, g.same_place) at e in
+        let more : s.at < length s.sheet.now = omega (arith, g.more) in
+        rw (g.sheet_kept, g.end_kept, g.passed, whole) (next_record s.sheet.now s.at p more q (sym f))
+
+    pub record_refused : (k : Refusal) → Err k ≡ record_check r.sheet.now r.at p → read_from (s.end - s.at) s.sheet.now s.at p ≡ Err k
+    record_refused k e =
+        let f = rw (g.same_sheet, g.same_place) at e in
+        let more : s.at < length s.sheet.now = omega (arith, g.more) in
+        rw whole (bad_record s.sheet.now s.at p more k (sym f))
+
+    pub placed_next : (q : Reading) → Ok q ≡ record_check r.sheet.now r.at p → Placed s.sheet.now s.at p → Placed t.sheet.now t.at q
+    placed_next q e h =
+        let f = rw (g.same_sheet, g.same_place) at e in
+        rw (g.sheet_kept, g.passed) (next_placed s.sheet.now s.at p q h (sym f))
+
+module _ (s : Records) (g : s.end ≤ s.at) where
+  pub no_class_left : (index : ℕ) → has_class s index ≡ false
+  no_class_left index = class_end s.sheet.now s.end index (s.end - s.at) s.at g
+
+  pub no_constant_left : (p : Pool) → with_constants s p ≡ p
+  no_constant_left p = pool_end s.sheet.now s.end (s.end - s.at) s.at p g

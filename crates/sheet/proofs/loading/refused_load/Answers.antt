@@ -1,5 +1,0 @@
--- `refused_load` meets its contract. Assumes nothing.
-use Rattle.sheet.proofs.loading.refused_load.Goals as goal
-
-pub returns : goal.returns
-returns c = rw c.loaded_state.ensures
