@@ -14,4 +14,4 @@ mod returns;
 mod stack;
 
 pub use choice::effect;
-pub use outcome::Effect;
+pub use outcome::{Effect, Six};

@@ -8,11 +8,21 @@ ghost use Rattle.effects.specs.Effects.{effect_of};
 use integers::{Integer, high_word, low_word};
 use values::Value;
 
-// Six words to push or to store, lowest first, of which those past the number that an instruction gives are 0; an ArithmeticException, whether a branch is taken, or a
-// value to return.
+// Up to six words, lowest first; those past the number that an instruction gives are 0. They have names for the speed of a step (rules/src/updates).
+#[derive(Clone, Copy)]
+pub struct Six {
+    pub w0: u32,
+    pub w1: u32,
+    pub w2: u32,
+    pub w3: u32,
+    pub w4: u32,
+    pub w5: u32,
+}
+
+// Words to push or to store, an ArithmeticException, whether a branch is taken, or a value to return.
 #[derive(Clone, Copy)]
 pub enum Effect {
-    Words([u32; 6]),
+    Words(Six),
     Throw,
     Branch(bool),
     Return(Value),
@@ -22,7 +32,14 @@ pub enum Effect {
 pub(crate) fn words(w0: u32, w1: u32, w2: u32, w3: u32, w4: u32, w5: u32) -> Effect
     ensures { result ≡ effect_of (pushes (w0 ∷ w1 ∷ w2 ∷ w3 ∷ w4 ∷ w5 ∷ [])) }
 {
-    Effect::Words([w0, w1, w2, w3, w4, w5])
+    Effect::Words(Six {
+        w0,
+        w1,
+        w2,
+        w3,
+        w4,
+        w5,
+    })
 }
 
 // No word.

@@ -23,7 +23,7 @@ fn store_words(slots: &mut [u32], index: u32, u: Update)
     ensures { slots.new ≡ paste slots.old index (update_words u) u.many }
 {
     if u.many == 1 {
-        set_local(slots, index, u.words[0]);
+        set_local(slots, index, u.w0);
         return;
     }
     write_update(slots, index as usize, u);

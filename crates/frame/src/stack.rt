@@ -22,7 +22,7 @@ pub(crate) fn push_words(stack: &mut [u32], depth: u32, u: Update)
     ensures { stack.new ≡ paste stack.old depth (update_words u) u.many }
 {
     if u.many == 1 {
-        push(stack, depth, u.words[0]);
+        push(stack, depth, u.w0);
         return;
     }
     write_update(stack, depth as usize, u);

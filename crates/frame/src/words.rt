@@ -28,11 +28,9 @@ pub(crate) fn write_update(target: &mut [u32], at: usize, u: Update)
     ensures { target.new ≡ paste target.old at (update_words u) u.many }
 {
     if u.many == 2 {
-        write_two(target, at, u.words[0], u.words[1]);
+        write_two(target, at, u.w0, u.w1);
         return;
     }
-    // a copy of its own, so that an update can stay in registers
-    let [a, b, c, d, e, f] = u.words;
-    let words = [a, b, c, d, e, f];
+    let words = [u.w0, u.w1, u.w2, u.w3, u.w4, u.w5];
     write_words(target, at, &words, u.many as usize);
 }

@@ -20,7 +20,12 @@ fn catch_at(code: &[u8], s: State, handler: u16) -> Decision
         depth: 1,
         first: s.max_locals as u32,
         many: 1,
-        words: [1, 0, 0, 0, 0, 0],
+        w0: 1,
+        w1: 0,
+        w2: 0,
+        w3: 0,
+        w4: 0,
+        w5: 0,
     })
 }
 

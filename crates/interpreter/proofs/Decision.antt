@@ -17,7 +17,7 @@ use Rattle.rules.specs.Instructions.{row_of}
 use Rattle.rules.specs.Fetch.{Instruction, operands, fetched}
 use Rattle.rules.specs.Questions.{Method, popped, pushed, frame_check, needs_check}
 use Rattle.rules.specs.Handlers.{handler_from}
-use Rattle.rules.specs.Step.{six, frame, base, words_at, update, inside, ordinary, following, target, thrown_at, outcome, decision, decide_of}
+use Rattle.rules.specs.Step.{frame, base, words_at, update, inside, ordinary, following, target, thrown_at, outcome, decision, decide_of}
 use Rattle.rules.proofs.Rows.{works}
 use Rattle.rules.proofs.Fetched.{Sound}
 use Rattle.rules.proofs.Step.{result, decided}
@@ -25,7 +25,7 @@ use Rattle.operands.specs.Switch.{offset_in, table_offset, lookup_offset}
 use Rattle.instructions.specs.Table.{is_in, shared_of, entry_of, shared_in}
 use Rattle.instructions.proofs.Entries.{entry_bytes}
 use Rattle.effects.specs.declared.outcome.Effect.{Effect}
-use Rattle.effects.specs.Effects.{effect_of, effect_at}
+use Rattle.effects.specs.Effects.{six, effect_of, effect_at}
 use Rattle.effects.specs.Families.{shared_opcodes}
 use Rattle.effects.proofs.OwnRow.{own_effect_lem, shared_listed}
 use Rattle.frame.proofs.Needs.{Stands, pushed_in, locals_in_lem}

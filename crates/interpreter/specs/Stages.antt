@@ -6,26 +6,28 @@ use Rattle.values.specs.Words.{meaning}
 use Rattle.rules.specs.declared.states.State.{State}
 use Rattle.rules.specs.Questions.{Method}
 use Rattle.rules.specs.Check.{Check}
-use Rattle.rules.specs.Step.{six, first_place, inside, thrown_at, decision}
+use Rattle.effects.specs.declared.outcome.Six.{Six}
+use Rattle.interpreter.specs.declared.reading.Four.{Four}
+use Rattle.rules.specs.Step.{first_place, inside, thrown_at, decision}
 use Rattle.operands.specs.Switch.{table_offset, lookup_offset}
 use Rattle.instructions.specs.Table.{pushes_in, locals_in, shared_in}
 use Rattle.const_pool.specs.declared.Constant.{Constant}
 use Rattle.const_pool.specs.Constant.{constant_of}
 use Rattle.effects.specs.declared.outcome.Effect.{Effect}
-use Rattle.effects.specs.Effects.{effect_at}
+use Rattle.effects.specs.Effects.{six, effect_at}
 use Rattle.interpreter.specs.declared.finishing.Located.{Located}
 use Rattle.rules.specs.declared.halts.Halt.TheVariants.{Return, Throw, Refused}
 use Rattle.rules.specs.Decisions.{Decision}
 
 -- ---- the words that it works on
 
-abbrev pub four : ℕ → ℕ → ℕ → ℕ → List ℕ
-four a b c d = a ∷ b ∷ c ∷ d ∷ []
+abbrev pub four : ℕ → ℕ → ℕ → ℕ → Four
+four a b c d = record { a = a; b = b; c = c; d = d }
 
-abbrev pub four_at : List ℕ → ℕ → List ℕ
+abbrev pub four_at : List ℕ → ℕ → Four
 four_at slots at = four (get_or slots at 0) (get_or slots (at + 1) 0) (get_or slots (at + 2) 0) (get_or slots (at + 3) 0)
 
-abbrev pub from_pool : Check Constant → Check (List ℕ)
+abbrev pub from_pool : Check Constant → Check Four
 from_pool (Ok c) = Ok (four c.low c.high 0 0)
 from_pool (Err r) = Err r
 
@@ -34,7 +36,7 @@ abbrev pub reads_local : ℕ → Bool
 reads_local op = eqb op 21 || eqb op 22 || eqb op 132
 
 -- by the shared opcode: a constant of the pool, the loads and IINC, and all others
-unfoldable pub read_of : Method → List ℕ → ℕ → ℕ → ℕ → Check (List ℕ)
+unfoldable pub read_of : Method → List ℕ → ℕ → ℕ → ℕ → Check Four
 read_of l slots op index base =
     cond (eqb op 18) (from_pool (constant_of l.kinds l.words index int float))
     (cond (eqb op 20) (from_pool (constant_of l.kinds l.words index long double))
@@ -67,9 +69,10 @@ reach (Ok n) = n
 reach (Err r) = 0
 
 -- by the answer to question 10
-unfoldable pub ordinary_to : Check ℕ → ℕ → ℕ → ℕ → List ℕ → Decision
-ordinary_to (Ok pc) depth first many ws = Ok (record { pc = pc; depth = depth; first = first_place first many; many = many; words = ws })
-ordinary_to (Err r) depth first many ws = Err (Refused r)
+unfoldable pub ordinary_to : Check ℕ → ℕ → ℕ → ℕ → Six → Decision
+ordinary_to (Ok pc) depth first many w =
+    Ok (record { pc = pc; depth = depth; first = first_place first many; many = many; w0 = w.w0; w1 = w.w1; w2 = w.w2; w3 = w.w3; w4 = w.w4; w5 = w.w5 })
+ordinary_to (Err r) depth first many w = Err (Refused r)
 
 -- by how much a branch that is taken goes on: a switch by its key, any other by its constant
 unfoldable pub offset_at : List ℕ → ℕ → ℕ → ℕ → ℕ → ℤ
@@ -83,15 +86,15 @@ branch_of code pc i key taken =
     ordinary_to (inside code (cond taken (pos pc +ℤ offset_at code pc i.op i.constant key) (pos i.next))) i.depth 0 0 (six [])
 
 unfoldable pub finish_of : List ℕ → ℕ → Located → ℕ → Effect → Decision
-finish_of code pc i key (Effect.Words ws) = ordinary_to (inside code (pos i.next)) i.depth i.first i.many ws
+finish_of code pc i key (Effect.Words w) = ordinary_to (inside code (pos i.next)) i.depth i.first i.many w
 finish_of code pc i key Effect.Throw = Err Throw
 finish_of code pc i key (Effect.Branch taken) = branch_of code pc i key taken
 finish_of code pc i key (Effect.Return v) = Err (Return v)
 
 -- ---- both
 
-abbrev pub read_decision : List ℕ → ℕ → Located → Check (List ℕ) → Decision
-read_decision code pc i (Ok ws) = finish_of code pc i (get_or ws 0 0) (effect_at i.op i.constant (get_or ws 0 0) (get_or ws 1 0) (get_or ws 2 0) (get_or ws 3 0))
+abbrev pub read_decision : List ℕ → ℕ → Located → Check Four → Decision
+read_decision code pc i (Ok w) = finish_of code pc i w.a (effect_at i.op i.constant w.a w.b w.c w.d)
 read_decision code pc i (Err r) = Err (Refused r)
 
 unfoldable pub located_decision : Method → List ℕ → ℕ → Located → Decision

@@ -27,10 +27,12 @@ fn advance_plain(method: &Method, slots: &mut [u32], s: State, taken: u64, most:
     requires taken_le_most { taken ≤ most }
     ensures { reached result slots.new ≡ advance_from (plain (lent method.now)) (most - taken) taken s slots.old }
 {
+    // a copy, which no write of a slot can reach: so its parts are read once, and not at every step
+    let own = *method;
     let mut t = s;
     let mut steps = taken;
     loop {
-        let decision = decide_framed(method, slots, t);
+        let decision = decide_framed(&own, slots, t);
         let u = match decision {
             Ok(u) => u,
             Err(_) => {

@@ -23,9 +23,9 @@ fn decide_located(method: &Method, slots: &[u32], pc: u32, i: Located) -> Decisi
     requires op_value { is_in shared_opcodes i.op ≡ true }
     ensures { result ≡ located_decision (plain (lent method.now)) slots.now pc i }
 {
-    let [a, b, c, d] = read_words(method, slots, i.op, i.index, i.base)?;
-    let does = effect(i.op, i.constant, a, b, c, d);
-    finish(method.code, pc, i, a, does)
+    let w = read_words(method, slots, i.op, i.index, i.base)?;
+    let does = effect(i.op, i.constant, w.a, w.b, w.c, w.d);
+    finish(method.code, pc, i, w.a, does)
 }
 
 // Questions 4 to 10 of a method as if it had no handlers, where questions 1 to 3 have passed; a return is not asked question 32 yet.

@@ -5,7 +5,7 @@ ghost use Rattle.values.specs.Words.{meaning};
 ghost use Rattle.rules.specs.Step.{first_place};
 ghost use Rattle.interpreter.specs.Stages.{reach, offset_at, ordinary_to, branch_of, finish_of, stores_to, located_of};
 
-use effects::Effect;
+use effects::{Effect, Six};
 use frame::Placed;
 use instructions::opcodes::*;
 use instructions::{Decoded, locals_in, pushes_in, shared_in};
@@ -58,6 +58,16 @@ pub(crate) fn locate(i: Decoded, next: usize, placed: Placed) -> Located
     on_stack
 }
 
+// No words.
+const NO_WORDS: Six = Six {
+    w0: 0,
+    w1: 0,
+    w2: 0,
+    w3: 0,
+    w4: 0,
+    w5: 0,
+};
+
 // Where nothing is written the first place is 0.
 fn first_place(first: u32, many: u32) -> u32
     ensures { result ≡ first_place first many }
@@ -66,15 +76,9 @@ fn first_place(first: u32, many: u32) -> u32
 }
 
 // An ordinary step to a target, if it is in the code, with the first of some words written from a place on.
-fn ordinary_to(
-    to: Result<usize, Refusal>,
-    depth: u32,
-    first: u32,
-    many: u32,
-    words: [u32; 6],
-) -> Decision
+fn ordinary_to(to: Result<usize, Refusal>, depth: u32, first: u32, many: u32, w: Six) -> Decision
     requires { reach to ≤ 65535 }
-    ensures { result ≡ ordinary_to to depth first many words }
+    ensures { result ≡ ordinary_to to depth first many w }
 {
     let pc = to?;
     Ok(Update {
@@ -82,7 +86,12 @@ fn ordinary_to(
         depth,
         first: first_place(first, many),
         many,
-        words,
+        w0: w.w0,
+        w1: w.w1,
+        w2: w.w2,
+        w3: w.w3,
+        w4: w.w4,
+        w5: w.w5,
     })
 }
 
@@ -106,7 +115,7 @@ fn jump(code: &[u8], pc: u32, i: Located, key: u32) -> Decision
 {
     let offset = branch_offset(code, pc, i.op, i.constant, key);
     let to = jump_relative(code, pc, offset);
-    ordinary_to(to, i.depth, 0, 0, [0, 0, 0, 0, 0, 0])
+    ordinary_to(to, i.depth, 0, 0, NO_WORDS)
 }
 
 // A branch, taken or not.
@@ -118,7 +127,7 @@ fn branch(code: &[u8], pc: u32, i: Located, key: u32, taken: bool) -> Decision
         return jump(code, pc, i, key);
     }
     let to = inside(code, i.next);
-    ordinary_to(to, i.depth, 0, 0, [0, 0, 0, 0, 0, 0])
+    ordinary_to(to, i.depth, 0, 0, NO_WORDS)
 }
 
 // What the step comes to, of what its instruction does; `key` is the first word that it works on.
@@ -127,9 +136,9 @@ pub(crate) fn finish(code: &[u8], pc: u32, i: Located, key: u32, does: Effect) -
     ensures { result ≡ finish_of code.now pc i key does }
 {
     match does {
-        Effect::Words(words) => {
+        Effect::Words(w) => {
             let to = inside(code, i.next);
-            ordinary_to(to, i.depth, i.first, i.many, words)
+            ordinary_to(to, i.depth, i.first, i.many, w)
         }
         Effect::Throw => Err(Halt::Throw),
         Effect::Branch(taken) => branch(code, pc, i, key, taken),

@@ -7,6 +7,15 @@ use const_pool::{Constant, ldc, ldc2_w};
 use instructions::opcodes::*;
 use rules::{Method, Refusal};
 
+// Up to four words, lowest first; those past the number that an instruction works on are any. They have names for the speed of a step (rules/src/updates).
+#[derive(Clone, Copy)]
+pub(crate) struct Four {
+    pub a: u32,
+    pub b: u32,
+    pub c: u32,
+    pub d: u32,
+}
+
 // The word at a place, and 0 past the end.
 fn word_at(slots: &[u32], place: usize) -> u32
     ensures { result ≡ get_or slots.now place 0 }
@@ -15,26 +24,36 @@ fn word_at(slots: &[u32], place: usize) -> u32
 }
 
 // Four words from a place on: nearly always all are there.
-fn four_at(slots: &[u32], place: u32) -> [u32; 4]
+fn four_at(slots: &[u32], place: u32) -> Four
     ensures { result ≡ four_at slots.now place }
 {
     let at = place as usize;
     if at + 4 <= slots.len() {
-        return [slots[at], slots[at + 1], slots[at + 2], slots[at + 3]];
+        return Four {
+            a: slots[at],
+            b: slots[at + 1],
+            c: slots[at + 2],
+            d: slots[at + 3],
+        };
     }
     let a = word_at(slots, at);
     let b = word_at(slots, at + 1);
     let c = word_at(slots, at + 2);
     let d = word_at(slots, at + 3);
-    [a, b, c, d]
+    Four { a, b, c, d }
 }
 
 // The words of a constant.
-fn from_pool(asked: Result<Constant, Refusal>) -> Result<[u32; 4], Refusal>
+fn from_pool(asked: Result<Constant, Refusal>) -> Result<Four, Refusal>
     ensures { result ≡ from_pool asked }
 {
     let found = asked?;
-    Ok([found.low, found.high, 0, 0])
+    Ok(Four {
+        a: found.low,
+        b: found.high,
+        c: 0,
+        d: 0,
+    })
 }
 
 // Whether a shared opcode reads its local: the loads and IINC.
@@ -44,15 +63,14 @@ fn reads_local(op: u8) -> bool
     op == ILOAD || op == LLOAD || op == IINC
 }
 
-// The words of an instruction with its shared opcode, its index and its first place on the stack: up to four, lowest first; those past the number that it works on are
-// any.
+// The words of an instruction with its shared opcode, its index and its first place on the stack.
 pub(crate) fn read_words(
     method: &Method,
     slots: &[u32],
     op: u8,
     index: u32,
     base: u32,
-) -> Result<[u32; 4], Refusal>
+) -> Result<Four, Refusal>
     ensures { result ≡ read_of (plain (lent method.now)) slots.now op index base }
 {
     if op == LDC {

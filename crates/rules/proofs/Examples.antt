@@ -32,7 +32,12 @@ changes pc depth first ws =
       depth = depth;
       first = first;
       many = length ws;
-      words = get_or ws 0 0 ∷ get_or ws 1 0 ∷ get_or ws 2 0 ∷ get_or ws 3 0 ∷ get_or ws 4 0 ∷ get_or ws 5 0 ∷ [];
+      w0 = get_or ws 0 0;
+      w1 = get_or ws 1 0;
+      w2 = get_or ws 2 0;
+      w3 = get_or ws 3 0;
+      w4 = get_or ws 4 0;
+      w5 = get_or ws 5 0;
     })
 
 unfoldable pub decided : Method → State → List ℕ → Decision

@@ -41,10 +41,6 @@ abbrev pub first_place : ℕ → ℕ → ℕ
 first_place at zero = 0
 first_place at (suc n) = at
 
--- the first six of some words; those past their end are 0
-abbrev pub six : List ℕ → List ℕ
-six ws = get_or ws 0 0 ∷ get_or ws 1 0 ∷ get_or ws 2 0 ∷ get_or ws 3 0 ∷ get_or ws 4 0 ∷ get_or ws 5 0 ∷ []
-
 -- n words written from place `at` on
 abbrev pub update : ℕ → ℕ → ℕ → ℕ → List ℕ → Update
 update pc depth at n ws =
@@ -53,7 +49,12 @@ update pc depth at n ws =
       depth = depth;
       first = first_place at n;
       many = n;
-      words = six ws;
+      w0 = get_or ws 0 0;
+      w1 = get_or ws 1 0;
+      w2 = get_or ws 2 0;
+      w3 = get_or ws 3 0;
+      w4 = get_or ws 4 0;
+      w5 = get_or ws 5 0;
     }
 
 -- 10. Is the next pc inside the code?
@@ -171,9 +172,8 @@ moved s pc depth count =
       return_type = s.return_type;
     }
 
--- the six words of an update
 abbrev pub update_words : Update → List ℕ
-update_words u = six u.words
+update_words u = u.w0 ∷ u.w1 ∷ u.w2 ∷ u.w3 ∷ u.w4 ∷ u.w5 ∷ []
 
 abbrev pub written : Update → List ℕ → List ℕ
 written u slots = paste slots u.first (update_words u) u.many

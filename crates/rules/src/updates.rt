@@ -8,5 +8,11 @@ pub struct Update {
     pub depth: u32,
     pub first: u32,
     pub many: u32,
-    pub words: [u32; 6],
+    // named, and no array: as an array the words are packed in pairs, which takes a step 17 machine instructions more than its 131
+    pub w0: u32,
+    pub w1: u32,
+    pub w2: u32,
+    pub w3: u32,
+    pub w4: u32,
+    pub w5: u32,
 }
