@@ -1,135 +1,73 @@
 // The fields of a line: a sample method and what it is lent.
-ghost use Rattle.std.specs.Prelude.{◌+◌, ◌*◌, ◌≤◌};
+ghost use Rattle.std.specs.Prelude.{◌+◌, ◌*◌, ◌≤◌, ◌<◌};
 
+use reading::digit_value;
 use rules::State;
+use std::alloc::{AllocError, Global};
 
 // A line, its line feed included.
 pub(crate) type Line = [u8; 496];
 
-// A sample: the parts that are lent, each with its length, and the state to start from.
-#[derive(Clone, Copy)]
+// A sample: the parts that are lent, and the state to start from.
+#[derive(Drop)]
 pub(crate) struct Sample {
-    pub code: [u8; 64],
-    pub code_length: usize,
-    pub kinds: [u8; 8],
-    pub kinds_length: usize,
-    pub words: [u32; 8],
-    pub words_length: usize,
-    pub handlers: [u8; 40],
-    pub handlers_length: usize,
-    pub slots: [u32; 12],
-    pub slots_length: usize,
+    pub code: Vec<u8>,
+    pub kinds: Vec<u8>,
+    pub words: Vec<u32>,
+    pub handlers: Vec<u8>,
+    pub slots: Vec<u32>,
     pub state: State,
 }
 
-// The value of an upper-case hexadecimal digit, and 0 for any other byte.
-fn digit(byte: u8) -> u64 {
-    if byte >= b'0' && byte <= b'9' {
-        (byte - b'0') as u64
-    } else if byte >= b'A' && byte <= b'F' {
-        (byte - b'A') as u64 + 10
-    } else {
-        0
-    }
+// The number in some columns, at most 16. A byte that is no digit counts as 0.
+fn number(columns: &[u8]) -> u64 {
+    columns.iter().fold(0, |value, byte| {
+        value << 4 | digit_value(*byte).unwrap_or(0) as u64
+    })
 }
 
-// The number in some columns, at most 16.
-fn number(line: &Line, start: usize, columns: usize) -> u64
-    requires { start + columns ≤ 496 }
-{
-    let mut value: u64 = 0;
-    for i in 0..columns {
-        value = value << 4 | digit(line[start + i]);
-    }
-    value
+// The number's low 8 bits.
+fn byte(columns: &[u8]) -> u8 {
+    (number(columns) % 0x100) as u8
 }
 
-// The number in 4 columns.
-fn number16(line: &Line, start: usize) -> u16
-    requires { start + 4 ≤ 496 }
-{
-    (number(line, start, 4) % 0x10000) as u16
+// The number's low 16 bits.
+fn half(columns: &[u8]) -> u16 {
+    (number(columns) % 0x1_0000) as u16
 }
 
-// The number in 8 columns.
-fn number32(line: &Line, start: usize) -> u32
-    requires { start + 8 ≤ 496 }
-{
-    (number(line, start, 8) % 0x1_0000_0000) as u32
+// The number's low 32 bits.
+fn word(columns: &[u8]) -> u32 {
+    (number(columns) % 0x1_0000_0000) as u32
 }
 
-// The number in 2 columns.
-fn number8(line: &Line, start: usize) -> u8
-    requires { start + 2 ≤ 496 }
-{
-    (number(line, start, 2) % 256) as u8
+// The first bytes in some columns, two columns each.
+fn bytes_of(alloc: Global, columns: &[u8], count: u8) -> Result<Vec<u8>, AllocError> {
+    let all = columns.chunks_exact(2).map(|pair| byte(pair));
+    all.take(count as usize).collect(alloc)
 }
 
-// The code's bytes.
-fn code_of(line: &Line) -> [u8; 64] {
-    let mut code = [0; 64];
-    for i in 0..64 {
-        code[i] = number8(line, 44 + 2 * i);
-    }
-    code
-}
-
-// The kinds of the pool.
-fn kinds_of(line: &Line) -> [u8; 8] {
-    let mut kinds = [0; 8];
-    for i in 0..8 {
-        kinds[i] = number8(line, 175 + 2 * i);
-    }
-    kinds
-}
-
-// The words of the pool.
-fn words_of(line: &Line) -> [u32; 8] {
-    let mut words = [0; 8];
-    for i in 0..8 {
-        words[i] = number32(line, 194 + 8 * i);
-    }
-    words
-}
-
-// The handlers' bytes.
-fn handlers_of(line: &Line) -> [u8; 40] {
-    let mut handlers = [0; 40];
-    for i in 0..40 {
-        handlers[i] = number8(line, 262 + 2 * i);
-    }
-    handlers
-}
-
-// The slots.
-fn slots_of(line: &Line) -> [u32; 12] {
-    let mut slots = [0; 12];
-    for i in 0..12 {
-        slots[i] = number32(line, 345 + 8 * i);
-    }
-    slots
+// The first words in some columns, eight columns each.
+fn words_of(alloc: Global, columns: &[u8], count: u8) -> Result<Vec<u32>, AllocError> {
+    let all = columns.chunks_exact(8).map(|eight| word(eight));
+    all.take(count as usize).collect(alloc)
 }
 
 // The sample in a line.
-pub(crate) fn sample_of(line: &Line) -> Sample {
-    Sample {
-        code: code_of(line),
-        code_length: number(line, 41, 2) as usize,
-        kinds: kinds_of(line),
-        kinds_length: number(line, 173, 1) as usize,
-        words: words_of(line),
-        words_length: number(line, 192, 1) as usize,
-        handlers: handlers_of(line),
-        handlers_length: number(line, 259, 2) as usize,
-        slots: slots_of(line),
-        slots_length: number(line, 343, 1) as usize,
+pub(crate) fn sample_of(alloc: Global, line: &Line) -> Result<Sample, AllocError> {
+    Ok(Sample {
+        code: bytes_of(alloc, &line[44..172], byte(&line[41..43]))?,
+        kinds: bytes_of(alloc, &line[175..191], byte(&line[173..174]))?,
+        words: words_of(alloc, &line[194..258], byte(&line[192..193]))?,
+        handlers: bytes_of(alloc, &line[262..342], byte(&line[259..261]))?,
+        slots: words_of(alloc, &line[345..441], byte(&line[343..344]))?,
         state: State {
-            max_stack: number16(line, 442),
-            max_locals: number16(line, 447),
-            pc: number32(line, 452),
-            depth: number32(line, 461),
-            count: number(line, 470, 16),
-            return_type: number32(line, 487),
+            max_stack: half(&line[442..446]),
+            max_locals: half(&line[447..451]),
+            pc: word(&line[452..460]),
+            depth: word(&line[461..469]),
+            count: number(&line[470..486]),
+            return_type: word(&line[487..495]),
         },
-    }
+    })
 }
