@@ -21,28 +21,26 @@ pub(crate) struct Pool {
     pub words: Vec<u32>,
 }
 
-// The number in at most 8 columns, all of them digits.
-fn word(columns: &[u8]) -> Result<u32, Failure> {
+// The number in some columns, all of them digits.
+fn value<T: TryFrom<u64>>(columns: &[u8]) -> Result<T, Failure>
+where
+    T::Error: Drop,
+{
     let value = hexadecimal(columns).ok_or(Failure::Malformed)?;
-    Ok((value % 0x1_0000_0000) as u32)
+    T::try_from(value).map_err(|_| Failure::Malformed)
 }
 
-// The number in 2 columns.
-fn byte(columns: &[u8]) -> Result<u8, Failure> {
-    Ok((word(columns)? % 0x100) as u8)
-}
-
-// The number in a field.
+// The number in a field of at most 8 columns.
 pub(crate) fn number(line: &Line, start: usize, end: usize) -> Result<u32, Failure>
     requires { (start ≤ end) × (end ≤ 187) }
 {
-    word(&line[start..end])
+    value(&line[start..end])
 }
 
 // Whether a space stands between the columns, and a line feed at the end.
 pub(crate) fn is_laid_out(line: &Line) -> bool {
-    let before = line[6] == b' ' && line[15] == b' ' && line[24] == b' ' && line[27] == b';';
-    let after = line[36] == b' ' && line[45] == b' ' && line[54] == b' ' && line[57] == b';';
+    let before = line[6] == b' ' && line[15] == b' ' && line[24] == b' ' && line[27] == b' ';
+    let after = line[36] == b' ' && line[45] == b' ' && line[54] == b' ' && line[57] == b' ';
     before && after && line[186] == b'\n'
 }
 
@@ -79,7 +77,7 @@ pub(crate) fn code_of(alloc: Global, line: &Line, count: u32) -> Result<Vec<u8>,
     let (entries, _) = entries(line, count, BYTE)?.as_chunks::<BYTE>();
     let mut code = Vec::new(alloc);
     for columns in entries {
-        code.push(byte(columns)?)?;
+        code.push(value(columns)?)?;
     }
     Ok(code)
 }
@@ -92,8 +90,8 @@ pub(crate) fn pool_of(alloc: Global, line: &Line, count: u32) -> Result<Pool, Fa
         words: Vec::new(alloc),
     };
     for columns in entries {
-        pool.kinds.push(byte(&columns[..BYTE])?)?;
-        pool.words.push(word(&columns[BYTE..])?)?;
+        pool.kinds.push(value(&columns[..BYTE])?)?;
+        pool.words.push(value(&columns[BYTE..])?)?;
     }
     Ok(pool)
 }

@@ -7,7 +7,10 @@ use std::io;
 fn main(rt: HostRuntime) -> io::Result<()> {
     for opcode in 0..=255u8 {
         let line = opcode_line(opcode);
-        println!(rt; "{} {} {} {}", line.opcode, line.length, line.popped, line.pushed)?;
+        println!(rt;
+            "{} {} {} {}",
+            line.opcode, line.length, line.popped, line.pushed
+        )?;
     }
     Ok(())
 }

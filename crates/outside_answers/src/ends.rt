@@ -10,7 +10,8 @@ pub(crate) fn print_line(rt: &impl Print, end: End, bits: bool) -> io::Result<()
         End::Return(Value::Float(word)) if !bits && word % 0x8000_0000 > 0x7F80_0000 => {
             println!(rt; "return float nan")
         }
-        End::Return(Value::Double(word)) if !bits && word % 0x8000_0000_0000_0000 > 0x7FF0_0000_0000_0000 => {
+        End::Return(Value::Double(word))
+            if !bits && word % 0x8000_0000_0000_0000 > 0x7FF0_0000_0000_0000 => {
             println!(rt; "return double nan")
         }
         _ => println!(rt; "{}", Ending(end)),

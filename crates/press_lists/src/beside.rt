@@ -25,7 +25,9 @@ pub(crate) fn run_beside(
     let Ok(loaded) = pool.load(sheet, others) else {
         return Ok(());
     };
-    let ran = pool.method(sheet, loaded).run(others, loaded.state, s.count);
+    let ran = pool
+        .method(sheet, loaded)
+        .run(others, loaded.state, s.count);
     println!(rt; "run {} {} {}", s.count, ran.steps, name_of(ran.end))?;
     let t = ran.state;
     let is_same = s.pc == t.pc && s.depth == t.depth && *slots == *others;

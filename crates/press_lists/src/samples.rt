@@ -91,14 +91,22 @@ pub(crate) struct Sample {
 }
 
 // So many bytes; none of a part that is too long.
-fn read_part(alloc: Global, stdin: &mut impl Read, count: usize, most: usize) -> io::Result<Vec<u8>> {
+fn read_part(
+    alloc: Global,
+    stdin: &mut impl Read,
+    count: usize,
+    most: usize,
+) -> io::Result<Vec<u8>> {
     read_bytes(alloc, stdin, if count <= most { count } else { 0 })
 }
 
 // The words in bytes, four each, the high ones first.
 fn words_of(alloc: Global, bytes: &[u8]) -> Result<Vec<u32>, AllocError> {
     let (words, _) = bytes.as_chunks::<4>();
-    words.iter().map(|word| u32::from_be_bytes(*word)).collect(alloc)
+    words
+        .iter()
+        .map(|word| u32::from_be_bytes(*word))
+        .collect(alloc)
 }
 
 // The sample after a head.

@@ -97,7 +97,13 @@ fn press_loaded(
         &mut memory.answers,
     );
     print_presses(rt, replay.number, &sample.presses, &memory.answers, tally)?;
-    print_left(rt, replay.state, &memory.slots, &sample.log, &memory.answers)?;
+    print_left(
+        rt,
+        replay.state,
+        &memory.slots,
+        &sample.log,
+        &memory.answers,
+    )?;
     Ok(replay.state)
 }
 
@@ -115,7 +121,14 @@ pub(crate) fn make_list<R: Print + AllocGlobal>(
             if sample.begin != Begin::default() {
                 return Ok(());
             }
-            run_beside(rt, &sample.sheet, &mut memory.pool, &mut memory.others, &memory.slots, left)
+            run_beside(
+                rt,
+                &sample.sheet,
+                &mut memory.pool,
+                &mut memory.others,
+                &memory.slots,
+                left,
+            )
         }
     }
 }

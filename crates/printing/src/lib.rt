@@ -8,5 +8,5 @@ mod sums;
 
 pub use endings::Ending;
 pub use lists::{print_list, print_state, print_words};
-pub use names::{first_word};
+pub use names::first_word;
 pub use sums::checksum;

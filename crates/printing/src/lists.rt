@@ -28,14 +28,8 @@ pub fn print_words(rt: &impl Print, name: &str, words: &[u32]) -> io::Result<()>
 
 // Prints a state.
 pub fn print_state(rt: &impl Print, s: State) -> io::Result<()> {
-    println!(
-        rt;
+    println!(rt;
         "state {} {} {} {} {} {}",
-        s.max_stack,
-        s.max_locals,
-        s.pc,
-        s.depth,
-        s.count,
-        s.return_type
+        s.max_stack, s.max_locals, s.pc, s.depth, s.count, s.return_type
     )
 }

@@ -9,7 +9,7 @@ use std::io;
 use std::io::Read;
 
 // Reads until the buffer is full or the input ends, fills the rest of it, and gives how many bytes were read.
-pub fn read_padded<R: Read>(input: &mut R, buffer: &mut [u8], filler: u8) -> io::Result<usize>
+fn read_padded<R: Read>(input: &mut R, buffer: &mut [u8], filler: u8) -> io::Result<usize>
     ensures within { IfOk result (λ n. n ≤ length buffer.new) }
     ensures padded { IfOk result (λ n. IsPadded (R.remaining input.old) (R.remaining input.new) filler n buffer.new) }
 {

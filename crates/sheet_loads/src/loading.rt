@@ -33,8 +33,7 @@ fn junk_words(alloc: Global, first: u32, count: usize) -> Result<Vec<u32>, Alloc
 fn print_answer(rt: &impl Print, loaded: Result<Loaded, u32>) -> io::Result<()> {
     match loaded {
         Err(refusal) => print!(rt; " refused {refusal}"),
-        Ok(loaded) => print!(
-            rt;
+        Ok(loaded) => print!(rt;
             " accepted {} {} {} {} {} {}",
             loaded.state.max_stack,
             loaded.state.max_locals,

@@ -19,55 +19,50 @@ pub(crate) struct Sample {
     pub state: State,
 }
 
-// The number in some columns, at most 16. A byte that is no digit counts as 0.
-fn number(columns: &[u8]) -> u64 {
-    columns.iter().fold(0, |value, byte| {
+// The number in some columns, no more than its type holds. A byte that is no digit counts as 0.
+fn number<T: TryFrom<u64> + Default>(columns: &[u8]) -> T
+where
+    T::Error: Drop,
+{
+    let value = columns.iter().fold(0u64, |value, byte| {
         value << 4 | digit_value(*byte).unwrap_or(0) as u64
-    })
+    });
+    T::try_from(value).unwrap_or_default()
 }
 
-// The number's low 8 bits.
-fn byte(columns: &[u8]) -> u8 {
-    (number(columns) % 0x100) as u8
-}
-
-// The number's low 16 bits.
-fn half(columns: &[u8]) -> u16 {
-    (number(columns) % 0x1_0000) as u16
-}
-
-// The number's low 32 bits.
-fn word(columns: &[u8]) -> u32 {
-    (number(columns) % 0x1_0000_0000) as u32
-}
-
-// The first bytes in some columns, two columns each.
-fn bytes_of(alloc: Global, columns: &[u8], count: u8) -> Result<Vec<u8>, AllocError> {
-    let all = columns.chunks_exact(2).map(|pair| byte(pair));
-    all.take(count as usize).collect(alloc)
-}
-
-// The first words in some columns, eight columns each.
-fn words_of(alloc: Global, columns: &[u8], count: u8) -> Result<Vec<u32>, AllocError> {
-    let all = columns.chunks_exact(8).map(|eight| word(eight));
-    all.take(count as usize).collect(alloc)
+// The first numbers in some columns, of so many columns each.
+fn numbers<T: TryFrom<u64> + Default + Drop>(
+    alloc: Global,
+    columns: &[u8],
+    width: usize,
+    count: usize,
+) -> Result<Vec<T>, AllocError>
+where
+    T::Error: Drop,
+    requires { 0 < width }
+{
+    let mut all = Vec::new(alloc);
+    for item in columns.chunks_exact(width).take(count) {
+        all.push(number(item))?;
+    }
+    Ok(all)
 }
 
 // The sample in a line.
 pub(crate) fn sample_of(alloc: Global, line: &Line) -> Result<Sample, AllocError> {
     Ok(Sample {
-        code: bytes_of(alloc, &line[44..172], byte(&line[41..43]))?,
-        kinds: bytes_of(alloc, &line[175..191], byte(&line[173..174]))?,
-        words: words_of(alloc, &line[194..258], byte(&line[192..193]))?,
-        handlers: bytes_of(alloc, &line[262..342], byte(&line[259..261]))?,
-        slots: words_of(alloc, &line[345..441], byte(&line[343..344]))?,
+        code: numbers(alloc, &line[44..172], 2, number(&line[41..43]))?,
+        kinds: numbers(alloc, &line[175..191], 2, number(&line[173..174]))?,
+        words: numbers(alloc, &line[194..258], 8, number(&line[192..193]))?,
+        handlers: numbers(alloc, &line[262..342], 2, number(&line[259..261]))?,
+        slots: numbers(alloc, &line[345..441], 8, number(&line[343..344]))?,
         state: State {
-            max_stack: half(&line[442..446]),
-            max_locals: half(&line[447..451]),
-            pc: word(&line[452..460]),
-            depth: word(&line[461..469]),
+            max_stack: number(&line[442..446]),
+            max_locals: number(&line[447..451]),
+            pc: number(&line[452..460]),
+            depth: number(&line[461..469]),
             count: number(&line[470..486]),
-            return_type: word(&line[487..495]),
+            return_type: number(&line[487..495]),
         },
     })
 }

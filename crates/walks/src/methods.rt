@@ -21,6 +21,14 @@ impl Method<'_> {
     pub fn run(&self, slots: &mut [u32], s: State, budget: u64) -> Ran
         ensures { ran result slots.new ≡ run_of (machine self.now.code.now self.now.kinds.now self.now.words.now self.now.handlers.now) budget s slots.old }
     {
-        interpreter::run(self.code, self.kinds, self.words, self.handlers, slots, s, budget)
+        interpreter::run(
+            self.code,
+            self.kinds,
+            self.words,
+            self.handlers,
+            slots,
+            s,
+            budget,
+        )
     }
 }

@@ -49,11 +49,30 @@ pub fn walk(
     println!(rt; "step pc op depth top")?;
     let mut state = s;
     for steps in 0..most {
-        if let Some(end) = end_of(decide(method.code, method.kinds, method.words, method.handlers, slots, state)) {
+        if let Some(end) = end_of(decide(
+            method.code,
+            method.kinds,
+            method.words,
+            method.handlers,
+            slots,
+            state,
+        )) {
             return Ok(Walked { state, steps, end });
         }
         print_step(rt, steps, method.code, slots, state)?;
-        state = step(method.code, method.kinds, method.words, method.handlers, slots, state).state;
+        state = step(
+            method.code,
+            method.kinds,
+            method.words,
+            method.handlers,
+            slots,
+            state,
+        )
+        .state;
     }
-    Ok(Walked { state, steps: most, end: End::Stopped })
+    Ok(Walked {
+        state,
+        steps: most,
+        end: End::Stopped,
+    })
 }
