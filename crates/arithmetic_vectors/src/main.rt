@@ -6,9 +6,9 @@ mod apply;
 
 ghost use Rattle.std.specs.Prelude.{◌≤◌};
 
-use reading::read_full;
+use reading::{hexadecimal, read_record};
 use std::io;
-use std::io::Read;
+use vectors::Tally;
 
 // A line, its line feed included.
 type Line = [u8; 64];
@@ -16,62 +16,15 @@ type Line = [u8; 64];
 // More lines than any file of vectors has: the loop over them has to end.
 const MOST: u64 = 1_000_000;
 
-// What a field comes to.
-#[derive(Clone, Copy)]
-enum Field {
-    Value(u64),
-    Malformed,
-}
-
-// A line, and how many bytes of it there were.
-#[derive(Clone, Copy)]
-struct Input {
-    line: Line,
-    count: usize,
-}
-
-// How many vectors were run, and how many of them differ or are malformed.
-#[derive(Clone, Copy)]
-struct Tally {
-    vectors: u64,
-    differ: u64,
-}
-
-// The value of an upper-case hexadecimal digit, or 16.
-fn digit(byte: u8) -> u64 {
-    if byte >= b'0' && byte <= b'9' {
-        (byte - b'0') as u64
-    } else if byte >= b'A' && byte <= b'F' {
-        (byte - b'A') as u64 + 10
-    } else {
-        16
-    }
-}
-
-// Where the blanks end with which a field begins.
-fn after_blanks(line: &Line, start: usize, end: usize) -> usize
-    requires { end ≤ 64 }
-{
-    let mut at = start;
-    while at < end && line[at] == b' ' {
-        at += 1;
-    }
-    at
-}
-
 // The number in a field of at most 16 columns. Blanks may stand before the digits, and blanks alone are 0.
-fn number(line: &Line, start: usize, end: usize) -> Field
-    requires { end ≤ 64 }
+fn number(line: &Line, start: usize, end: usize) -> Option<u64>
+    requires { start ≤ end × end ≤ 64 }
 {
-    let mut value: u64 = 0;
-    for at in after_blanks(line, start, end)..end {
-        let d = digit(line[at]);
-        if d > 15 {
-            return Field::Malformed;
-        }
-        value = value << 4 | d;
+    let field = &line[start..end];
+    match field.iter().position(|byte| *byte != b' ') {
+        Some(first) => hexadecimal(&field[first..]),
+        None => Some(0),
     }
-    Field::Value(value)
 }
 
 // Whether the first operand and the result are there, a space stands between the columns, and a line feed at the end.
@@ -81,100 +34,54 @@ fn is_laid_out(line: &Line) -> bool {
     are_there && are_apart && line[63] == b'\n'
 }
 
+// Whether a line with its fields holds; none where one is malformed.
+fn fields_hold(line: &Line) -> Option<bool> {
+    let op = number(line, 0, 2)?;
+    let a = number(line, 13, 29)?;
+    let b = number(line, 30, 46)?;
+    let result = number(line, 47, 63)?;
+    Some(apply::holds(op, a, b, result))
+}
+
 // Whether a line is a vector that holds.
 fn holds(line: &Line) -> bool {
-    if !is_laid_out(line) {
-        return false;
-    }
-    let Field::Value(op) = number(line, 0, 2) else {
-        return false;
-    };
-    let Field::Value(a) = number(line, 13, 29) else {
-        return false;
-    };
-    let Field::Value(b) = number(line, 30, 46) else {
-        return false;
-    };
-    let Field::Value(result) = number(line, 47, 63) else {
-        return false;
-    };
-    apply::holds(op, a, b, result)
+    is_laid_out(line) && fields_hold(line).unwrap_or(false)
 }
 
-// Whether two lines are of one function: the opcode and the name have the first 12 columns.
-fn is_same_function(one: &Line, other: &Line) -> bool {
-    for at in 0..12 {
-        if one[at] != other[at] {
-            return false;
-        }
-    }
-    true
-}
-
-// Reads a line. Blanks stand where the input ends early, so that a line that is cut short has no line feed at its end.
-fn read_line(stdin: &mut impl Read) -> io::Result<Input> {
-    let mut line = [b' '; 64];
-    let count = read_full(stdin, &mut line)?;
-    Ok(Input { line, count })
-}
-
-// One more, up to a number that no file of vectors reaches.
-fn more(n: u64) -> u64 {
-    if n < MOST { n + 1 } else { MOST }
-}
-
-// A tally with one more vector.
-fn counted(tally: Tally, is_right: bool) -> Tally {
-    let differ = tally.differ;
-    Tally {
-        vectors: more(tally.vectors),
-        differ: if is_right { differ } else { more(differ) },
-    }
-}
-
-// Prints a tally.
-fn print_tally(rt: &impl Print, tally: Tally) -> io::Result<()> {
-    let vectors = tally.vectors;
-    let differ = tally.differ;
-    println!(rt; "{vectors} vectors, {differ} differ")
+// The opcode and the name of a line's function.
+fn function_of(line: &Line) -> &[u8] {
+    &line[..12]
 }
 
 // Prints the tally of a function, with the name that stands in its first line, if it had a vector.
 fn print_function(rt: &impl Print, first: &Line, tally: Tally) -> io::Result<()> {
-    if tally.vectors > 0 {
-        let line = &first[..];
-        rt.write_all(&line[3..13])?;
-        print_tally(rt, tally)?;
+    if tally.vectors == 0 {
+        return Ok(());
     }
-    Ok(())
+    rt.write_all(&first[3..13])?;
+    println!(rt; "{tally}")
 }
 
 // Reads line by line, and prints the tally of a function when the next one begins.
 fn main(rt: HostRuntime) -> io::Result<()> {
-    let none = Tally {
-        vectors: 0,
-        differ: 0,
-    };
-    let mut total = none;
-    let mut of_function = none;
+    let mut total = Tally::default();
+    let mut of_function = Tally::default();
     let mut first = [b' '; 64];
     let mut stdin = rt.stdin();
     for _ in 0..MOST {
-        let input = read_line(&mut stdin)?;
-        if input.count == 0 {
+        let Some(line) = read_record(&mut stdin, b' ')? else {
             break;
-        }
-        let line = input.line;
+        };
         // A malformed line is counted with the function before it.
-        if is_laid_out(&line) && !is_same_function(&first, &line) {
+        if is_laid_out(&line) && function_of(&first) != function_of(&line) {
             print_function(&rt, &first, of_function)?;
-            of_function = none;
+            of_function = Tally::default();
             first = line;
         }
         let is_right = holds(&line);
-        of_function = counted(of_function, is_right);
-        total = counted(total, is_right);
+        of_function.count(is_right);
+        total.count(is_right);
     }
     print_function(&rt, &first, of_function)?;
-    print_tally(&rt, total)
+    println!(rt; "{total}")
 }

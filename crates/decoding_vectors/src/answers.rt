@@ -2,105 +2,59 @@
 use const_pool::{Constant, ldc, ldc2_w};
 use instructions::opcodes::*;
 use instructions::{Decoded, decode, entry};
-use operands::{lookup_offset, table_offset};
+use operands::{lookup_offset, read_code_u8, table_offset};
 
-// An answer: the number of a refusal or 0, and three numbers, 0 where there is none.
-#[derive(Clone, Copy)]
-pub(crate) struct Answer {
-    pub refusal: u32,
-    pub first: u64,
-    pub second: u32,
-    pub third: u32,
-}
-
-// The refusal of an answer that is wrong whatever the vector says: a field of two digits is at most 255.
-const WRONG: u32 = 256;
-
-// An answer that is a number of a question.
-fn refused(refusal: u32) -> Answer {
-    Answer {
-        refusal,
-        first: 0,
-        second: 0,
-        third: 0,
-    }
-}
-
-// The byte at an offset, and 0 past the end.
-fn byte_at(code: &[u8], at: usize) -> u8 {
-    if at < code.len() { code[at] } else { 0 }
-}
+// Three numbers, 0 where there is none, or the number of a refusal.
+pub(crate) type Answer = Result<[u64; 3], u32>;
 
 // The entry of the opcode at an offset, of the one after it where it is WIDE.
 fn expected_entry(code: &[u8], pc: u32) -> u64 {
     let at = pc as usize;
-    let opcode = byte_at(code, at);
-    if opcode == WIDE {
-        return entry(byte_at(code, at + 1));
+    match read_code_u8(code, at) {
+        WIDE => entry(read_code_u8(code, at + 1)),
+        opcode => entry(opcode),
     }
-    entry(opcode)
 }
 
-// The length, the index and the constant of the instruction at an offset.
-pub(crate) fn instruction(code: &[u8], pc: u32) -> Answer {
-    let expected = expected_entry(code, pc);
+// The length, the index and the constant of the instruction at an offset; none where it is not that of its opcode.
+pub(crate) fn instruction(code: &[u8], pc: u32) -> Option<Answer> {
     match decode(code, pc) {
+        Decoded::Refused(number) => Some(Err(number)),
         Decoded::Instruction {
             entry,
             size,
             index,
             constant,
         } => {
-            if entry != expected {
-                return refused(WRONG);
+            if entry != expected_entry(code, pc) {
+                return None;
             }
-            Answer {
-                refusal: 0,
-                first: size as u64,
-                second: index,
-                third: constant,
-            }
+            Some(Ok([size as u64, index as u64, constant as u64]))
         }
-        Decoded::Refused(number) => refused(number),
     }
 }
 
-// The offset of the branch that the switch at an offset takes for a key.
-pub(crate) fn branch(code: &[u8], pc: u32, key: u32) -> Answer {
-    let opcode = byte_at(code, pc as usize);
-    if opcode != TABLESWITCH && opcode != LOOKUPSWITCH {
-        return refused(WRONG);
-    }
-    let offset = if opcode == TABLESWITCH {
-        table_offset(code, pc, key)
-    } else {
-        lookup_offset(code, pc, key)
+// The offset of the branch that the switch at an offset takes for a key; none where there is no switch.
+pub(crate) fn branch(code: &[u8], pc: u32, key: u32) -> Option<Answer> {
+    let offset = match read_code_u8(code, pc as usize) {
+        TABLESWITCH => table_offset(code, pc, key),
+        LOOKUPSWITCH => lookup_offset(code, pc, key),
+        _ => return None,
     };
-    Answer {
-        refusal: 0,
-        first: offset as u64,
-        second: 0,
-        third: 0,
-    }
+    Some(Ok([offset as u64, 0, 0]))
 }
 
-// The words of the constant at an index, for an opcode that loads one.
-pub(crate) fn constant(kinds: &[u8], words: &[u32], index: u32, opcode: u32) -> Answer {
-    if opcode != LDC as u32 && opcode != LDC2_W as u32 {
-        return refused(WRONG);
-    }
+// The words of the constant at an index, for an opcode that loads one; none for any other.
+pub(crate) fn constant(kinds: &[u8], words: &[u32], index: u32, opcode: u32) -> Option<Answer> {
     let found = if opcode == LDC as u32 {
         ldc(kinds, words, index)
-    } else {
+    } else if opcode == LDC2_W as u32 {
         ldc2_w(kinds, words, index)
+    } else {
+        return None;
     };
     match found {
-        Constant::Found { low, high } => Answer {
-            refusal: 0,
-            first: low as u64,
-            second: high,
-            third: 0,
-        },
-        Constant::Refused(n) => refused(n),
+        Constant::Found { low, high } => Some(Ok([low as u64, high as u64, 0])),
+        Constant::Refused(number) => Some(Err(number)),
     }
 }

@@ -1,65 +1,40 @@
 // The fields of a line. judge/src/lists/decoding says how a line is laid out.
-ghost use Rattle.std.specs.Prelude.{◌≤◌};
+ghost use Rattle.std.specs.Prelude.{◌≤◌, ◌<◌};
+
+use crate::answers::Answer;
+use crate::failures::Failure;
+use reading::hexadecimal;
+use std::alloc::Global;
 
 // A line, its line feed included.
 pub(crate) type Line = [u8; 187];
 
-// What a field comes to.
-#[derive(Clone, Copy)]
-pub(crate) enum Field {
-    Value(u32),
-    Malformed,
-}
+// The columns of an entry: of a byte of code, and of a constant, its kind first.
+const BYTE: usize = 2;
 
-// The code of a vector, with 0 after it, and whether its bytes are well formed.
-#[derive(Clone, Copy)]
-pub(crate) struct Code {
-    pub bytes: [u8; 64],
-    pub is_whole: bool,
-}
+const CONSTANT: usize = 10;
 
-// The constant pool of a vector, with 0 after it, and whether its entries are well formed.
-#[derive(Clone, Copy)]
+// The entries of a constant pool: their kinds, and their words.
+#[derive(Drop)]
 pub(crate) struct Pool {
-    pub kinds: [u8; 12],
-    pub words: [u32; 12],
-    pub is_whole: bool,
+    pub kinds: Vec<u8>,
+    pub words: Vec<u32>,
 }
 
-// The value of an upper-case hexadecimal digit, or 16.
-fn digit(byte: u8) -> u32 {
-    if byte >= b'0' && byte <= b'9' {
-        (byte - b'0') as u32
-    } else if byte >= b'A' && byte <= b'F' {
-        (byte - b'A') as u32 + 10
-    } else {
-        16
-    }
-}
-
-// The number in a field of at most 8 columns, all of them digits.
-pub(crate) fn number(line: &Line, start: usize, end: usize) -> Field
-    requires { end ≤ 187 }
+// The number in some columns, all of them digits.
+fn value<T: TryFrom<u64>>(columns: &[u8]) -> Result<T, Failure>
+where
+    T::Error: Drop,
 {
-    let mut value: u32 = 0;
-    for at in start..end {
-        let d = digit(line[at]);
-        if d > 15 {
-            return Field::Malformed;
-        }
-        value = value << 4 | d;
-    }
-    Field::Value(value)
+    let value = hexadecimal(columns).ok_or(Failure::Malformed)?;
+    T::try_from(value).map_err(|_| Failure::Malformed)
 }
 
-// Whether the columns from a first one to the end of the bytes are blank.
-pub(crate) fn is_blank_from(line: &Line, start: usize) -> bool {
-    for at in start..186 {
-        if line[at] != b' ' {
-            return false;
-        }
-    }
-    true
+// The number in a field of at most 8 columns.
+pub(crate) fn number(line: &Line, start: usize, end: usize) -> Result<u32, Failure>
+    requires { (start ≤ end) × (end ≤ 187) }
+{
+    value(&line[start..end])
 }
 
 // Whether a space stands between the columns, and a line feed at the end.
@@ -69,50 +44,54 @@ pub(crate) fn is_laid_out(line: &Line) -> bool {
     before && after && line[186] == b'\n'
 }
 
-// The bytes of a line as code.
-pub(crate) fn code_of(line: &Line, count: usize) -> Code
-    requires { count ≤ 64 }
-{
-    let mut bytes = [0; 64];
-    for at in 0..count {
-        let start = 58 + 2 * at;
-        let Field::Value(byte) = number(line, start, start + 2) else {
-            return Code {
-                bytes,
-                is_whole: false,
-            };
-        };
-        bytes[at] = (byte % 256) as u8;
+// The answer that a line expects. No number goes with a refusal.
+pub(crate) fn expected(line: &Line) -> Result<Answer, Failure> {
+    let refusal = number(line, 25, 27)?;
+    let first = number(line, 28, 36)?;
+    let second = number(line, 37, 45)?;
+    let third = number(line, 46, 54)?;
+    match (refusal, first, second, third) {
+        (0, _, _, _) => Ok(Ok([first as u64, second as u64, third as u64])),
+        (_, 0, 0, 0) => Ok(Err(refusal)),
+        _ => Err(Failure::Malformed),
     }
-    let is_whole = is_blank_from(line, 58 + 2 * count);
-    Code { bytes, is_whole }
+}
+
+// So many entries of a line, of so many columns each; after them it has to be blank.
+fn entries(line: &Line, count: u32, columns: usize) -> Result<&[u8], Failure>
+    requires { columns ≤ 10 }
+{
+    let bytes = &line[58..186];
+    let end = count as usize * columns;
+    if end > bytes.len() {
+        return Err(Failure::Malformed);
+    }
+    if bytes[end..].iter().any(|byte| *byte != b' ') {
+        return Err(Failure::Malformed);
+    }
+    Ok(&bytes[..end])
+}
+
+// The bytes of a line as code.
+pub(crate) fn code_of(alloc: Global, line: &Line, count: u32) -> Result<Vec<u8>, Failure> {
+    let (entries, _) = entries(line, count, BYTE)?.as_chunks::<BYTE>();
+    let mut code = Vec::new(alloc);
+    for columns in entries {
+        code.push(value(columns)?)?;
+    }
+    Ok(code)
 }
 
 // The bytes of a line as entries of a constant pool.
-pub(crate) fn pool_of(line: &Line, count: usize) -> Pool
-    requires { count ≤ 12 }
-{
-    let mut kinds = [0; 12];
-    let mut words = [0; 12];
-    let mut is_whole = is_blank_from(line, 58 + 10 * count);
-    for at in 0..count {
-        let start = 58 + 10 * at;
-        let kind = number(line, start, start + 2);
-        let word = number(line, start + 2, start + 10);
-        if let Field::Value(k) = kind {
-            kinds[at] = (k % 256) as u8;
-        } else {
-            is_whole = false;
-        }
-        if let Field::Value(w) = word {
-            words[at] = w;
-        } else {
-            is_whole = false;
-        }
+pub(crate) fn pool_of(alloc: Global, line: &Line, count: u32) -> Result<Pool, Failure> {
+    let (entries, _) = entries(line, count, CONSTANT)?.as_chunks::<CONSTANT>();
+    let mut pool = Pool {
+        kinds: Vec::new(alloc),
+        words: Vec::new(alloc),
+    };
+    for columns in entries {
+        pool.kinds.push(value(&columns[..BYTE])?)?;
+        pool.words.push(value(&columns[BYTE..])?)?;
     }
-    Pool {
-        kinds,
-        words,
-        is_whole,
-    }
+    Ok(pool)
 }

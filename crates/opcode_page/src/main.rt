@@ -2,22 +2,15 @@
 #![tactic(auto)]
 
 use instructions::opcode_line;
-use printing::{print, print_number};
 use std::io;
-
-// Prints the line of an opcode.
-fn print_line(rt: &impl Print, opcode: u8) -> io::Result<()> {
-    let line = opcode_line(opcode);
-    rt.print(line.opcode as u64)?;
-    print_number(rt, line.length as u64)?;
-    print_number(rt, line.popped as u64)?;
-    print_number(rt, line.pushed as u64)?;
-    print(rt, b"\n")
-}
 
 fn main(rt: HostRuntime) -> io::Result<()> {
     for opcode in 0..=255u8 {
-        print_line(&rt, opcode)?;
+        let line = opcode_line(opcode);
+        println!(rt;
+            "{} {} {} {}",
+            line.opcode, line.length, line.popped, line.pushed
+        )?;
     }
     Ok(())
 }

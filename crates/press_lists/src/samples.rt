@@ -1,78 +1,126 @@
 // The samples on standard input: a head of 80 bytes, then the sheet, the log's words and the presses.
-ghost use Rattle.std.specs.Prelude.{◌≤◌};
-
-use reading::read_full;
+use reading::{read_bytes, word_at};
+use std::alloc::{AllocError, Global};
 use std::io;
 use std::io::Read;
 
-// How much is lent of each part, and the offset, the depth and the count that a list begins with.
+// The head of a sample.
+pub(crate) type Head = [u8; 80];
+
+// The name in a head, without the blanks after it.
+pub(crate) fn name_of(head: &Head) -> &[u8] {
+    let name = &head[..40];
+    match name.iter().rposition(|byte| *byte != b' ') {
+        Some(last) => &name[..=last],
+        None => b"",
+    }
+}
+
+// How much is lent of each part, and how much is read.
 #[derive(Clone, Copy)]
-pub(crate) struct Head {
+pub(crate) struct Sizes {
     pub slots: usize,
     pub pool: usize,
     pub log: usize,
     pub presses: usize,
     pub answers: usize,
     pub sheet: usize,
+}
+
+impl Sizes {
+    // The most that a sample may have.
+    const MOST: Sizes = Sizes {
+        slots: 64,
+        pool: 16,
+        log: 1200,
+        presses: 1000,
+        answers: 3008,
+        sheet: 512,
+    };
+
+    // The sizes in a head, after the name.
+    fn of(head: &Head) -> Sizes {
+        Sizes {
+            slots: word_at(head, 40) as usize,
+            pool: word_at(head, 44) as usize,
+            log: word_at(head, 48) as usize,
+            presses: word_at(head, 52) as usize,
+            answers: word_at(head, 56) as usize,
+            sheet: word_at(head, 60) as usize,
+        }
+    }
+
+    // Whether no part is longer than a sample's may be.
+    pub(crate) fn are_kept(&self) -> bool {
+        let most = Self::MOST;
+        let memory = self.slots <= most.slots && self.pool <= most.pool;
+        let log = self.log <= most.log && self.answers <= most.answers;
+        memory && log && self.sheet <= most.sheet && self.presses <= most.presses
+    }
+}
+
+// Where a list of presses begins: the offset, the depth and the count.
+#[derive(Clone, Copy, PartialEq, Default)]
+pub(crate) struct Begin {
     pub pc: u32,
     pub depth: u32,
     pub count: u64,
 }
 
-// A byte as a number.
-fn wide(byte: u8) -> u64 {
-    byte as u64
-}
-
-// The 32-bit number in four bytes of a head, the high ones first.
-fn number(bytes: &[u8; 80], a: usize) -> u64
-    requires { a ≤ 76 }
-{
-    wide(bytes[a]) << 24 | wide(bytes[a + 1]) << 16 | wide(bytes[a + 2]) << 8 | wide(bytes[a + 3])
-}
-
-// A head, after the name.
-pub(crate) fn read_head(bytes: &[u8; 80]) -> Head {
-    Head {
-        slots: number(bytes, 40) as usize,
-        pool: number(bytes, 44) as usize,
-        log: number(bytes, 48) as usize,
-        presses: number(bytes, 52) as usize,
-        answers: number(bytes, 56) as usize,
-        sheet: number(bytes, 60) as usize,
-        pc: (number(bytes, 64) % 0x1_0000_0000) as u32,
-        depth: (number(bytes, 68) % 0x1_0000_0000) as u32,
-        count: number(bytes, 72) << 32 | number(bytes, 76),
-    }
-}
-
-// Reads the first n bytes.
-pub(crate) fn read_bytes(stdin: &mut impl Read, target: &mut [u8], n: usize) -> io::Result<()> {
-    if n <= target.len() {
-        read_full(stdin, &mut target[..n])?;
-    }
-    Ok(())
-}
-
-// A byte as a part of a word.
-fn part(byte: u8) -> u32 {
-    byte as u32
-}
-
-// Reads a word, its high byte first.
-fn read_word(stdin: &mut impl Read) -> io::Result<u32> {
-    let mut bytes = [0u8; 4];
-    read_full(stdin, &mut bytes)?;
-    Ok(part(bytes[0]) << 24 | part(bytes[1]) << 16 | part(bytes[2]) << 8 | part(bytes[3]))
-}
-
-// Reads the first n words.
-pub(crate) fn read_words(stdin: &mut impl Read, target: &mut [u32], n: usize) -> io::Result<()> {
-    for i in 0..target.len() {
-        if i >= n {
-            break;
+impl Begin {
+    // The beginning in a head, after the sizes.
+    fn of(head: &Head) -> Begin {
+        let high = word_at(head, 72) as u64;
+        let low = word_at(head, 76) as u64;
+        Begin {
+            pc: word_at(head, 64),
+            depth: word_at(head, 68),
+            count: high << 32 | low,
         }
-        target[i] = read_word(stdin)?;
     }
-    Ok(())
+}
+
+// A sample: its sizes, where its list begins, the sheet, the log's words, and a byte for each press.
+#[derive(Drop)]
+pub(crate) struct Sample {
+    pub sizes: Sizes,
+    pub begin: Begin,
+    pub sheet: Vec<u8>,
+    pub log: Vec<u32>,
+    pub presses: Vec<u8>,
+}
+
+// So many bytes; none of a part that is too long.
+fn read_part(
+    alloc: Global,
+    stdin: &mut impl Read,
+    count: usize,
+    most: usize,
+) -> io::Result<Vec<u8>> {
+    read_bytes(alloc, stdin, if count <= most { count } else { 0 })
+}
+
+// The words in bytes, four each, the high ones first.
+fn words_of(alloc: Global, bytes: &[u8]) -> Result<Vec<u32>, AllocError> {
+    let (words, _) = bytes.as_chunks::<4>();
+    words
+        .iter()
+        .map(|word| u32::from_be_bytes(*word))
+        .collect(alloc)
+}
+
+// The sample after a head.
+pub(crate) fn read_sample(alloc: Global, stdin: &mut impl Read, head: &Head) -> io::Result<Sample> {
+    let sizes = Sizes::of(head);
+    let most = Sizes::MOST;
+    let sheet = read_part(alloc, stdin, sizes.sheet, most.sheet)?;
+    let log = read_bytes(alloc, stdin, 4 * sizes.log.min(most.log))?;
+    let presses = read_part(alloc, stdin, sizes.presses, most.presses)?;
+    Ok(Sample {
+        sizes,
+        begin: Begin::of(head),
+        sheet,
+        log: words_of(alloc, &log)?,
+        presses,
+    })
 }

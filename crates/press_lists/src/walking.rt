@@ -1,14 +1,24 @@
 // A list of presses on what a load left.
 use crate::beside::run_beside;
-use crate::results::print_answers;
-use crate::samples::Head;
-use crate::tally::{Tally, nothing, one_list};
-use history::{Replay, presses};
+use crate::samples::{Begin, Sample, Sizes};
+use crate::tally::Tally;
+use history::presses;
 use interpreter::moved;
-use printing::{print, print_number, print_state, print_sum_of_words, print_words};
-use rules::{Load, Loaded, State};
-use sheet::{code_of, handlers_of, load};
+use printing::{checksum, print_list, print_state, print_words};
+use rules::{Loaded, State};
+use std::alloc::{AllocError, Global};
 use std::io;
+use walks::Pool;
+
+// Prints an answer: its number, and the value of a return.
+fn print_answer(rt: &impl Print, answer: &[u32; 3]) -> io::Result<()> {
+    let [number, low, high] = *answer;
+    match number {
+        101..=103 => print!(rt; " {number}:{low:08X}"),
+        104..=105 => print!(rt; " {number}:{high:08X}{low:08X}"),
+        _ => print!(rt; " {number}"),
+    }
+}
 
 // Prints what a list left.
 fn print_left(
@@ -20,109 +30,105 @@ fn print_left(
 ) -> io::Result<()> {
     print_state(rt, s)?;
     print_words(rt, b"slots", slots)?;
-    print_sum_of_words(rt, b"log", log)?;
-    print_sum_of_words(rt, b"\nwords", answers)?;
-    print(rt, b"\n")
+    println!(rt; "log {:08X}", checksum(log.iter().copied()))?;
+    println!(rt; "words {:08X}", checksum(answers.iter().copied()))
 }
 
-// Prints the number that a list came back with, and the answers of its presses.
-fn print_replay(rt: &impl Print, number: u32, presses: usize, answers: &[u32]) -> io::Result<()> {
-    print(rt, b"presses")?;
-    print_number(rt, number as u64)?;
-    print(rt, b"\n")?;
-    if number == 0 {
-        print_answers(rt, answers, presses)
-    } else {
-        print_answers(rt, answers, 0)
+// What is lent beside a sample's log: slots for the list and for a run beside it, a constant pool, and the words of the answers.
+#[derive(Drop)]
+struct Memory {
+    slots: Vec<u32>,
+    others: Vec<u32>,
+    pool: Pool,
+    answers: Vec<u32>,
+}
+
+// Memory that holds junk.
+fn junk(alloc: Global, sizes: Sizes) -> Result<Memory, AllocError> {
+    Ok(Memory {
+        slots: vec![in alloc; 0xBEEF_BEEF; sizes.slots]?,
+        others: vec![in alloc; 0xBEEF_BEEF; sizes.slots]?,
+        pool: Pool {
+            kinds: vec![in alloc; 0xAB; sizes.pool]?,
+            words: vec![in alloc; 0xDEAD_DEAD; sizes.pool]?,
+        },
+        answers: vec![in alloc; 0xFACE_FACE; sizes.answers]?,
+    })
+}
+
+// Prints the number that a list came back with and the answers of its presses, and counts them; a list that was refused as a whole has none.
+fn print_presses(
+    rt: &impl Print,
+    number: u32,
+    bytes: &[u8],
+    answers: &[u32],
+    tally: &mut Tally,
+) -> io::Result<()> {
+    println!(rt; "presses {number}")?;
+    if number != 0 {
+        return println!(rt; "answers -");
     }
+    let (all, _) = answers.as_chunks::<3>();
+    let made = &all[..bytes.len().min(all.len())];
+    tally.count_list(bytes, made);
+    print_list(rt, b"answers", made, |answer| print_answer(rt, answer))
 }
 
-// Prints the refusal of a sheet.
-fn print_refusal(rt: &impl Print, answer: Load) -> io::Result<()> {
-    if let Load::Refused(n) = answer {
-        print(rt, b"sheet")?;
-        print_number(rt, n as u64)?;
-        print(rt, b"\n")?;
-    }
-    Ok(())
-}
-
-// Makes the presses, and prints what they came to.
+// Makes the presses from the sample's offset, depth and count on, on what a load left.
 fn press_loaded(
     rt: &impl Print,
-    code: &[u8],
-    kinds: &[u8],
-    words: &[u32],
-    handlers: &[u8],
-    slots: &mut [u32],
-    log: &mut [u32],
-    begin: State,
-    bytes: &[u8],
-    answers: &mut [u32],
-) -> io::Result<Replay> {
-    let replay = presses(
-        code, kinds, words, handlers, slots, log, begin, bytes, answers,
-    );
-    print_replay(rt, replay.number, bytes.len(), answers)?;
-    let left = replay.state;
-    print_left(rt, left, slots, log, answers)?;
-    Ok(replay)
-}
-
-// The presses of a list, unless it was refused as a whole.
-fn counted(number: u32, bytes: &[u8], answers: &[u32]) -> Tally {
-    if number == 0 {
-        one_list(bytes, answers)
-    } else {
-        nothing()
-    }
-}
-
-// Makes the presses from the head's offset, depth and count on, and runs beside them.
-fn press_from(
-    rt: &impl Print,
-    sheet: &[u8],
+    sample: &mut Sample,
+    memory: &mut Memory,
     loaded: Loaded,
-    kinds: &mut [u8],
-    words: &mut [u32],
-    slots: &mut [u32],
-    others: &mut [u32],
-    log: &mut [u32],
-    bytes: &[u8],
-    answers: &mut [u32],
-    head: Head,
-) -> io::Result<Tally> {
-    let answer = loaded.answer;
-    let Load::Accepted = answer else {
-        print_refusal(rt, answer)?;
-        return Ok(nothing());
-    };
-    let begin = moved(loaded.state, head.pc, head.depth, head.count);
-    let code = code_of(sheet, loaded);
-    let handlers = handlers_of(sheet, loaded);
-    let replay = press_loaded(
-        rt, code, kinds, words, handlers, slots, log, begin, bytes, answers,
+    tally: &mut Tally,
+) -> io::Result<State> {
+    let begin = sample.begin;
+    let s = moved(loaded.state, begin.pc, begin.depth, begin.count);
+    let method = memory.pool.method(&sample.sheet, loaded);
+    let replay = presses(
+        method.code,
+        method.kinds,
+        method.words,
+        method.handlers,
+        &mut memory.slots,
+        &mut sample.log,
+        s,
+        &sample.presses,
+        &mut memory.answers,
+    );
+    print_presses(rt, replay.number, &sample.presses, &memory.answers, tally)?;
+    print_left(
+        rt,
+        replay.state,
+        &memory.slots,
+        &sample.log,
+        &memory.answers,
     )?;
-    let left = replay.state;
-    run_beside(rt, sheet, kinds, words, others, slots, left, head)?;
-    Ok(counted(replay.number, bytes, answers))
+    Ok(replay.state)
 }
 
-// Loads a sheet, and makes the presses on what it left.
-pub(crate) fn walk(
-    rt: &impl Print,
-    sheet: &[u8],
-    kinds: &mut [u8],
-    words: &mut [u32],
-    slots: &mut [u32],
-    others: &mut [u32],
-    log: &mut [u32],
-    bytes: &[u8],
-    answers: &mut [u32],
-    head: Head,
-) -> io::Result<Tally> {
-    let loaded = load(sheet, slots, kinds, words);
-    press_from(
-        rt, sheet, loaded, kinds, words, slots, others, log, bytes, answers, head,
-    )
+// Loads a sample's sheet, and makes its presses on what the load left; where they begin at the load, a run goes beside them.
+pub(crate) fn make_list<R: Print + AllocGlobal>(
+    rt: &R,
+    sample: &mut Sample,
+    tally: &mut Tally,
+) -> io::Result<()> {
+    let mut memory = junk(rt.alloc(), sample.sizes)?;
+    match memory.pool.load(&sample.sheet, &mut memory.slots) {
+        Err(refusal) => println!(rt; "sheet {refusal}"),
+        Ok(loaded) => {
+            let left = press_loaded(rt, sample, &mut memory, loaded, tally)?;
+            if sample.begin != Begin::default() {
+                return Ok(());
+            }
+            run_beside(
+                rt,
+                &sample.sheet,
+                &mut memory.pool,
+                &mut memory.others,
+                &memory.slots,
+                left,
+            )
+        }
+    }
 }

@@ -1,43 +1,17 @@
-// Checksums of lent memory, each under a name.
-ghost use Rattle.std.specs.Prelude.{◌≡◌};
+// Checksums of lent memory.
+ghost use Rattle.std.specs.Prelude.{ℕ, List, ◌≡◌};
+ghost use Rattle.std.specs.Iterator.{Drains, IsFinite};
+ghost use Rattle.printing.specs.Checksum.{checksum_of};
 
-use crate::{print, print_hex};
-use std::io;
-
-// A checksum with one more number.
-fn more(sum: u32, x: u32) -> u32 {
-    ((sum as u64 * 31 + x as u64 + 1) % 0x1_0000_0000) as u32
-}
-
-// A byte as a word.
-fn wide(byte: u8) -> u32 {
-    byte as u32
-}
-
-// Prints a checksum.
-fn print_sum(rt: &impl Print, name: &[u8], sum: u32) -> io::Result<()> {
-    print(rt, name)?;
-    print_hex(rt, sum as u64, 8)
-}
-
-// Prints the checksum of bytes.
-pub fn print_sum_of_bytes(rt: &impl Print, name: &[u8], bytes: &[u8]) -> io::Result<()>
-    ensures { (name.now ≡ name.now) × (bytes.now ≡ bytes.now) }
+// The checksum of the words that an iterator gives.
+pub fn checksum<I: Iterator<Item = u32> + Drop>(words: I) -> u32
+    requires can { I.can_next words }
+    requires finite { IsFinite (I.remaining words) }
+    ensures { (xs : List ℕ) × Drains I.next_gives words xs × (result ≡ checksum_of xs) }
 {
-    let mut sum = 0;
-    for byte in bytes {
-        sum = more(sum, wide(*byte));
-    }
-    print_sum(rt, name, sum)
-}
-
-// Prints the checksum of words.
-pub fn print_sum_of_words(rt: &impl Print, name: &[u8], words: &[u32]) -> io::Result<()>
-    ensures { (name.now ≡ name.now) × (words.now ≡ words.now) }
-{
-    let mut sum = 0;
+    let mut sum: u32 = 0;
     for word in words {
-        sum = more(sum, *word);
+        sum = sum.wrapping_mul(31).wrapping_add(word).wrapping_add(1);
     }
-    print_sum(rt, name, sum)
+    sum
 }

@@ -1,9 +1,14 @@
-// Bytes from the input, part by part, for the programs.
+// Bytes from the input, part by part, and the numbers in them, for the programs.
 #![tactic(auto)]
+
+mod digits;
+mod records;
 
 ghost use Rattle.std.specs.Io.KnownBytes.{Consumes, IsAtEnd};
 ghost use Rattle.std.specs.Prelude.{◌<◌, ◌≤◌, IfOk, length, take};
 
+pub use digits::{digit_value, hexadecimal, word_at};
+pub use records::{read_bytes, read_record};
 use std::io;
 use std::io::Read;
 

@@ -1,45 +1,52 @@
 // The samples on standard input: a head of 56 bytes, and then the sheet.
-ghost use Rattle.std.specs.Prelude.{◌≤◌};
+use printing::first_word;
+use reading::word_at;
 
-use reading::read_full;
-use std::io;
-use std::io::Read;
+// The head of a sample.
+pub(crate) type Head = [u8; 56];
 
-// How many slots, kinds and words are lent, and how many bytes the sheet has.
+// The name in a head.
+pub(crate) fn name_of(head: &Head) -> &[u8] {
+    first_word(&head[..40])
+}
+
+// How many slots and entries of a pool are lent, and how many bytes the sheet has.
 #[derive(Clone, Copy)]
-pub(crate) struct Head {
+pub(crate) struct Sizes {
     pub slots: usize,
     pub kinds: usize,
     pub words: usize,
-    pub length: usize,
+    pub sheet: usize,
 }
 
-// A byte as a number.
-fn wide(byte: u8) -> usize {
-    byte as usize
-}
+impl Sizes {
+    // The most that a sample may have.
+    const MOST: Sizes = Sizes {
+        slots: 300,
+        kinds: 65600,
+        words: 65600,
+        sheet: 66000,
+    };
 
-// The 32-bit number in four bytes of a head, the high ones first.
-fn number(bytes: &[u8; 56], a: usize) -> usize
-    requires { a ≤ 52 }
-{
-    wide(bytes[a]) << 24 | wide(bytes[a + 1]) << 16 | wide(bytes[a + 2]) << 8 | wide(bytes[a + 3])
-}
-
-// A head, after the name.
-pub(crate) fn read_head(bytes: &[u8; 56]) -> Head {
-    Head {
-        slots: number(bytes, 40),
-        kinds: number(bytes, 44),
-        words: number(bytes, 48),
-        length: number(bytes, 52),
+    // The sizes in a head, after the name.
+    pub(crate) fn of(head: &Head) -> Sizes {
+        Sizes {
+            slots: word_at(head, 40) as usize,
+            kinds: word_at(head, 44) as usize,
+            words: word_at(head, 48) as usize,
+            sheet: word_at(head, 52) as usize,
+        }
     }
-}
 
-// Reads the first n bytes of a sheet.
-pub(crate) fn read_sheet(stdin: &mut impl Read, sheet: &mut [u8], n: usize) -> io::Result<()> {
-    if n <= sheet.len() {
-        read_full(stdin, &mut sheet[..n])?;
+    // Whether the sheet is short enough to be read.
+    pub(crate) fn is_read(&self) -> bool {
+        self.sheet <= Self::MOST.sheet
     }
-    Ok(())
+
+    // Whether so much memory is lent.
+    pub(crate) fn is_lent(&self) -> bool {
+        self.slots <= Self::MOST.slots
+            && self.kinds <= Self::MOST.kinds
+            && self.words <= Self::MOST.words
+    }
 }

@@ -1,135 +1,68 @@
 // The fields of a line: a sample method and what it is lent.
-ghost use Rattle.std.specs.Prelude.{◌+◌, ◌*◌, ◌≤◌};
+ghost use Rattle.std.specs.Prelude.{◌+◌, ◌*◌, ◌≤◌, ◌<◌};
 
+use reading::digit_value;
 use rules::State;
+use std::alloc::{AllocError, Global};
 
 // A line, its line feed included.
 pub(crate) type Line = [u8; 496];
 
-// A sample: the parts that are lent, each with its length, and the state to start from.
-#[derive(Clone, Copy)]
+// A sample: the parts that are lent, and the state to start from.
+#[derive(Drop)]
 pub(crate) struct Sample {
-    pub code: [u8; 64],
-    pub code_length: usize,
-    pub kinds: [u8; 8],
-    pub kinds_length: usize,
-    pub words: [u32; 8],
-    pub words_length: usize,
-    pub handlers: [u8; 40],
-    pub handlers_length: usize,
-    pub slots: [u32; 12],
-    pub slots_length: usize,
+    pub code: Vec<u8>,
+    pub kinds: Vec<u8>,
+    pub words: Vec<u32>,
+    pub handlers: Vec<u8>,
+    pub slots: Vec<u32>,
     pub state: State,
 }
 
-// The value of an upper-case hexadecimal digit, and 0 for any other byte.
-fn digit(byte: u8) -> u64 {
-    if byte >= b'0' && byte <= b'9' {
-        (byte - b'0') as u64
-    } else if byte >= b'A' && byte <= b'F' {
-        (byte - b'A') as u64 + 10
-    } else {
-        0
-    }
-}
-
-// The number in some columns, at most 16.
-fn number(line: &Line, start: usize, columns: usize) -> u64
-    requires { start + columns ≤ 496 }
+// The number in some columns, no more than its type holds. A byte that is no digit counts as 0.
+fn number<T: TryFrom<u64> + Default>(columns: &[u8]) -> T
+where
+    T::Error: Drop,
 {
-    let mut value: u64 = 0;
-    for i in 0..columns {
-        value = value << 4 | digit(line[start + i]);
-    }
-    value
+    let value = columns.iter().fold(0u64, |value, byte| {
+        value << 4 | digit_value(*byte).unwrap_or(0) as u64
+    });
+    T::try_from(value).unwrap_or_default()
 }
 
-// The number in 4 columns.
-fn number16(line: &Line, start: usize) -> u16
-    requires { start + 4 ≤ 496 }
+// The first numbers in some columns, of so many columns each.
+fn numbers<T: TryFrom<u64> + Default + Drop>(
+    alloc: Global,
+    columns: &[u8],
+    width: usize,
+    count: usize,
+) -> Result<Vec<T>, AllocError>
+where
+    T::Error: Drop,
+    requires { 0 < width }
 {
-    (number(line, start, 4) % 0x10000) as u16
-}
-
-// The number in 8 columns.
-fn number32(line: &Line, start: usize) -> u32
-    requires { start + 8 ≤ 496 }
-{
-    (number(line, start, 8) % 0x1_0000_0000) as u32
-}
-
-// The number in 2 columns.
-fn number8(line: &Line, start: usize) -> u8
-    requires { start + 2 ≤ 496 }
-{
-    (number(line, start, 2) % 256) as u8
-}
-
-// The code's bytes.
-fn code_of(line: &Line) -> [u8; 64] {
-    let mut code = [0; 64];
-    for i in 0..64 {
-        code[i] = number8(line, 44 + 2 * i);
+    let mut all = Vec::new(alloc);
+    for item in columns.chunks_exact(width).take(count) {
+        all.push(number(item))?;
     }
-    code
-}
-
-// The kinds of the pool.
-fn kinds_of(line: &Line) -> [u8; 8] {
-    let mut kinds = [0; 8];
-    for i in 0..8 {
-        kinds[i] = number8(line, 175 + 2 * i);
-    }
-    kinds
-}
-
-// The words of the pool.
-fn words_of(line: &Line) -> [u32; 8] {
-    let mut words = [0; 8];
-    for i in 0..8 {
-        words[i] = number32(line, 194 + 8 * i);
-    }
-    words
-}
-
-// The handlers' bytes.
-fn handlers_of(line: &Line) -> [u8; 40] {
-    let mut handlers = [0; 40];
-    for i in 0..40 {
-        handlers[i] = number8(line, 262 + 2 * i);
-    }
-    handlers
-}
-
-// The slots.
-fn slots_of(line: &Line) -> [u32; 12] {
-    let mut slots = [0; 12];
-    for i in 0..12 {
-        slots[i] = number32(line, 345 + 8 * i);
-    }
-    slots
+    Ok(all)
 }
 
 // The sample in a line.
-pub(crate) fn sample_of(line: &Line) -> Sample {
-    Sample {
-        code: code_of(line),
-        code_length: number(line, 41, 2) as usize,
-        kinds: kinds_of(line),
-        kinds_length: number(line, 173, 1) as usize,
-        words: words_of(line),
-        words_length: number(line, 192, 1) as usize,
-        handlers: handlers_of(line),
-        handlers_length: number(line, 259, 2) as usize,
-        slots: slots_of(line),
-        slots_length: number(line, 343, 1) as usize,
+pub(crate) fn sample_of(alloc: Global, line: &Line) -> Result<Sample, AllocError> {
+    Ok(Sample {
+        code: numbers(alloc, &line[44..172], 2, number(&line[41..43]))?,
+        kinds: numbers(alloc, &line[175..191], 2, number(&line[173..174]))?,
+        words: numbers(alloc, &line[194..258], 8, number(&line[192..193]))?,
+        handlers: numbers(alloc, &line[262..342], 2, number(&line[259..261]))?,
+        slots: numbers(alloc, &line[345..441], 8, number(&line[343..344]))?,
         state: State {
-            max_stack: number16(line, 442),
-            max_locals: number16(line, 447),
-            pc: number32(line, 452),
-            depth: number32(line, 461),
-            count: number(line, 470, 16),
-            return_type: number32(line, 487),
+            max_stack: number(&line[442..446]),
+            max_locals: number(&line[447..451]),
+            pc: number(&line[452..460]),
+            depth: number(&line[461..469]),
+            count: number(&line[470..486]),
+            return_type: number(&line[487..495]),
         },
-    }
+    })
 }

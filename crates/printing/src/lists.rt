@@ -1,0 +1,35 @@
+// Whole lines: items under a name, and a state.
+use rules::State;
+use std::io;
+
+// Prints items under a name, each as the closure prints it, or a dash where there are none.
+pub fn print_list<T, F: Fn(&T) -> io::Result<()>>(
+    rt: &impl Print,
+    name: &[u8],
+    items: &[T],
+    print_item: F,
+) -> io::Result<()>
+    requires { F.IsAlwaysCallable print_item }
+{
+    rt.write_all(name)?;
+    if items.is_empty() {
+        print!(rt; " -")?;
+    }
+    for item in items {
+        print_item(item)?;
+    }
+    println!(rt)
+}
+
+// Prints words under a name.
+pub fn print_words(rt: &impl Print, name: &[u8], words: &[u32]) -> io::Result<()> {
+    print_list(rt, name, words, |word| print!(rt; " {word:08X}"))
+}
+
+// Prints a state.
+pub fn print_state(rt: &impl Print, s: State) -> io::Result<()> {
+    println!(rt;
+        "state {} {} {} {} {} {}",
+        s.max_stack, s.max_locals, s.pc, s.depth, s.count, s.return_type
+    )
+}
