@@ -19,18 +19,11 @@ fn expected_entry(code: &[u8], pc: u32) -> u64 {
 // The length, the index and the constant of the instruction at an offset; none where it is not that of its opcode.
 pub(crate) fn instruction(code: &[u8], pc: u32) -> Option<Answer> {
     match decode(code, pc) {
-        Decoded::Refused(number) => Some(Err(number)),
-        Decoded::Instruction {
-            entry,
-            size,
-            index,
-            constant,
-        } => {
-            if entry != expected_entry(code, pc) {
-                return None;
-            }
-            Some(Ok([size as u64, index as u64, constant as u64]))
+        Err(refusal) => Some(Err(refusal.number())),
+        Ok(d) if d.entry == expected_entry(code, pc) => {
+            Some(Ok([d.size as u64, d.index as u64, d.constant as u64]))
         }
+        Ok(_) => None,
     }
 }
 
@@ -54,7 +47,7 @@ pub(crate) fn constant(kinds: &[u8], words: &[u32], index: u32, opcode: u32) -> 
         return None;
     };
     match found {
-        Constant::Found { low, high } => Some(Ok([low as u64, high as u64, 0])),
-        Constant::Refused(number) => Some(Err(number)),
+        Ok(found) => Some(Ok([found.low as u64, found.high as u64, 0])),
+        Err(refusal) => Some(Err(refusal.number())),
     }
 }

@@ -5,6 +5,7 @@
 mod ends;
 
 use crate::ends::print_line;
+use interpreter::run;
 use reading::{read_bytes, read_record};
 use std::io;
 use std::io::Read;
@@ -35,10 +36,10 @@ fn trial<R: Print + AllocGlobal>(
         words: vec![in rt.alloc(); 0u32; 65536]?,
     };
     match pool.load(&sheet, &mut slots) {
-        Err(refusal) => println!(rt; "sheet {refusal}"),
+        Err(refusal) => println!(rt; "sheet {}", refusal.number()),
         Ok(loaded) => {
             let method = pool.method(&sheet, loaded);
-            let ran = method.run(&mut slots, loaded.state, BUDGET);
+            let ran = run(&method, &mut slots, loaded.state, BUDGET);
             print_line(rt, ran.end, bits)
         }
     }

@@ -1,15 +1,16 @@
 // A run beside a list of presses: both must end at the same place.
-use rules::{End, State};
+use interpreter::run;
+use rules::{End, Halt, State};
 use std::io;
 use walks::Pool;
 
 // What ended a run, in a word.
 fn name_of(end: End) -> &'static str {
     match end {
-        End::Stopped => "stopped",
-        End::Return(_) => "return",
-        End::Throw => "throw",
-        End::Refused(_) => "refused",
+        None => "stopped",
+        Some(Halt::Return(_)) => "return",
+        Some(Halt::Throw) => "throw",
+        Some(Halt::Refused(_)) => "refused",
     }
 }
 
@@ -25,9 +26,7 @@ pub(crate) fn run_beside(
     let Ok(loaded) = pool.load(sheet, others) else {
         return Ok(());
     };
-    let ran = pool
-        .method(sheet, loaded)
-        .run(others, loaded.state, s.count);
+    let ran = run(&pool.method(sheet, loaded), others, loaded.state, s.count);
     println!(rt; "run {} {} {}", s.count, ran.steps, name_of(ran.end))?;
     let t = ran.state;
     let is_same = s.pc == t.pc && s.depth == t.depth && *slots == *others;

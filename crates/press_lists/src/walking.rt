@@ -56,18 +56,14 @@ fn junk(alloc: Global, sizes: Sizes) -> Result<Memory, AllocError> {
     })
 }
 
-// Prints the number that a list came back with and the answers of its presses, and counts them; a list that was refused as a whole has none.
+// Prints the answers of a list's presses, and counts them.
 fn print_presses(
     rt: &impl Print,
-    number: u32,
     bytes: &[u8],
     answers: &[u32],
     tally: &mut Tally,
 ) -> io::Result<()> {
-    println!(rt; "presses {number}")?;
-    if number != 0 {
-        return println!(rt; "answers -");
-    }
+    println!(rt; "presses 0")?;
     let (all, _) = answers.as_chunks::<3>();
     let made = &all[..bytes.len().min(all.len())];
     tally.count_list(bytes, made);
@@ -85,26 +81,16 @@ fn press_loaded(
     let begin = sample.begin;
     let s = moved(loaded.state, begin.pc, begin.depth, begin.count);
     let method = memory.pool.method(&sample.sheet, loaded);
-    let replay = presses(
-        method.code,
-        method.kinds,
-        method.words,
-        method.handlers,
-        &mut memory.slots,
-        &mut sample.log,
-        s,
-        &sample.presses,
-        &mut memory.answers,
-    );
-    print_presses(rt, replay.number, &sample.presses, &memory.answers, tally)?;
-    print_left(
-        rt,
-        replay.state,
-        &memory.slots,
-        &sample.log,
-        &memory.answers,
-    )?;
-    Ok(replay.state)
+    let slots = &mut memory.slots;
+    let answers = &mut memory.answers;
+    let pressed = presses(&method, slots, &mut sample.log, s, &sample.presses, answers);
+    match pressed {
+        Ok(_) => print_presses(rt, &sample.presses, answers, tally)?,
+        Err(refusal) => println!(rt; "presses {}\nanswers -", refusal.number())?,
+    }
+    let left = pressed.unwrap_or(s);
+    print_left(rt, left, slots, &sample.log, answers)?;
+    Ok(left)
 }
 
 // Loads a sample's sheet, and makes its presses on what the load left; where they begin at the load, a run goes beside them.
@@ -115,7 +101,7 @@ pub(crate) fn make_list<R: Print + AllocGlobal>(
 ) -> io::Result<()> {
     let mut memory = junk(rt.alloc(), sample.sizes)?;
     match memory.pool.load(&sample.sheet, &mut memory.slots) {
-        Err(refusal) => println!(rt; "sheet {refusal}"),
+        Err(refusal) => println!(rt; "sheet {}", refusal.number()),
         Ok(loaded) => {
             let left = press_loaded(rt, sample, &mut memory, loaded, tally)?;
             if sample.begin != Begin::default() {

@@ -1,5 +1,5 @@
 // How a run ends, as a line has it (RULES, 'The printed walk').
-use rules::End;
+use rules::{End, Halt};
 use std::fmt;
 use values::Value;
 
@@ -27,10 +27,10 @@ pub struct Ending(pub End);
 impl fmt::Display for Ending {
     fn fmt<W: fmt::Write>(&self, f: &mut fmt::Formatter<W>) -> fmt::Result {
         match self.0 {
-            End::Stopped => write!(f, "stopped"),
-            End::Return(v) => write!(f, "return {}", Returned(v)),
-            End::Throw => write!(f, "throw arithmetic"),
-            End::Refused(n) => write!(f, "refused {n}"),
+            None => write!(f, "stopped"),
+            Some(Halt::Return(v)) => write!(f, "return {}", Returned(v)),
+            Some(Halt::Throw) => write!(f, "throw arithmetic"),
+            Some(Halt::Refused(refusal)) => write!(f, "refused {}", refusal.number()),
         }
     }
 }

@@ -1,7 +1,7 @@
 // A sheet loaded into memory that holds junk.
 use crate::samples::Sizes;
 use printing::checksum;
-use rules::Loaded;
+use rules::{Loaded, Refusal};
 use std::alloc::{AllocError, Global};
 use std::io;
 use walks::Pool;
@@ -30,9 +30,9 @@ fn junk_words(alloc: Global, first: u32, count: usize) -> Result<Vec<u32>, Alloc
 }
 
 // Prints what a load answers: the sizes of the frame, and where the code and the handlers lie, or the refusal.
-fn print_answer(rt: &impl Print, loaded: Result<Loaded, u32>) -> io::Result<()> {
+fn print_answer(rt: &impl Print, loaded: Result<Loaded, Refusal>) -> io::Result<()> {
     match loaded {
-        Err(refusal) => print!(rt; " refused {refusal}"),
+        Err(refusal) => print!(rt; " refused {}", refusal.number()),
         Ok(loaded) => print!(rt;
             " accepted {} {} {} {} {} {}",
             loaded.state.max_stack,

@@ -1,9 +1,10 @@
 // A sample walked step by step, and run.
 use crate::fields::Sample;
+use interpreter::run;
 use printing::{Ending, print_list, print_state, print_words};
-use rules::State;
+use rules::{Method, State};
 use std::io;
-use walks::{Method, walk};
+use walks::walk;
 
 // A walk's and a run's limit of steps.
 const BUDGET: u64 = 60;
@@ -36,7 +37,7 @@ fn print_run(
     s: State,
     budget: u64,
 ) -> io::Result<()> {
-    let ran = method.run(slots, s, budget);
+    let ran = run(method, slots, s, budget);
     println!(rt; "run {budget} {} {}", ran.steps, Ending(ran.end))?;
     print_frame(rt, slots, ran.state)
 }

@@ -1,6 +1,5 @@
 // The constant pool that a load fills.
-use crate::methods::Method;
-use rules::{Load, Loaded};
+use rules::{Loaded, Method, Refusal};
 use sheet::{code_of, handlers_of, load};
 
 // The entries of a constant pool: their kinds, and their words.
@@ -12,19 +11,20 @@ pub struct Pool {
 
 impl Pool {
     ghost use Rattle.std.specs.Prelude.{◌≡◌, MatchResult};
+    ghost use Rattle.std.specs.Prelude.Result.{Ok, Err};
     ghost use Rattle.rules.specs.Sheet.{load_of, code_of, handlers_of};
     ghost use Rattle.sheet.specs.Filled.{after_load};
 
-    // Loads a sheet: where its parts lie, or the number of its refusal.
-    pub fn load(&mut self, sheet: &[u8], slots: &mut [u32]) -> Result<Loaded, u32>
+    // Loads a sheet: where its parts lie, or why it is refused.
+    pub fn load(&mut self, sheet: &[u8], slots: &mut [u32]) -> Result<Loaded, Refusal>
         ensures { MatchResult result
-            (λ loaded. (loaded.answer ≡ Load.Accepted) × (after_load loaded slots.new self.new.kinds.items self.new.words.items ≡ load_of sheet.now slots.old self.old.kinds.items self.old.words.items))
-            (λ number. (loaded : Loaded) × (loaded.answer ≡ Load.Refused number) × (after_load loaded slots.new self.new.kinds.items self.new.words.items ≡ load_of sheet.now slots.old self.old.kinds.items self.old.words.items)) }
+            (λ loaded. (loaded.answer ≡ Ok tt) × (after_load loaded slots.new self.new.kinds.items self.new.words.items ≡ load_of sheet.now slots.old self.old.kinds.items self.old.words.items))
+            (λ refusal. (loaded : Loaded) × (loaded.answer ≡ Err refusal) × (after_load loaded slots.new self.new.kinds.items self.new.words.items ≡ load_of sheet.now slots.old self.old.kinds.items self.old.words.items)) }
     {
         let loaded = load(sheet, slots, &mut self.kinds, &mut self.words);
         match loaded.answer {
-            Load::Accepted => Ok(loaded),
-            Load::Refused(n) => Err(n),
+            Ok(()) => Ok(loaded),
+            Err(refusal) => Err(refusal),
         }
     }
 

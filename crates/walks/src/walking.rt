@@ -1,9 +1,8 @@
 // A method walked step by step (RULES, 'The printed walk').
 ghost use Rattle.std.specs.Prelude.{◌≤◌, IfOk};
 
-use crate::methods::Method;
 use interpreter::{decide, step};
-use rules::{Decision, End, State};
+use rules::{End, Method, State};
 use std::io;
 
 // The state that a walk reached, how many steps it took, and what ended it.
@@ -12,16 +11,6 @@ pub struct Walked {
     pub state: State,
     pub steps: u64,
     pub end: End,
-}
-
-// What a decision ends a walk with; none if it is an ordinary step.
-fn end_of(decision: Decision) -> Option<End> {
-    match decision {
-        Decision::Ordinary(_) => None,
-        Decision::Return(v) => Some(End::Return(v)),
-        Decision::Throw => Some(End::Throw),
-        Decision::Refused(n) => Some(End::Refused(n)),
-    }
 }
 
 // Prints the line of an ordinary step: the steps before it, and the offset, the opcode, the depth and the word on top where it begins.
@@ -49,30 +38,16 @@ pub fn walk(
     println!(rt; "step pc op depth top")?;
     let mut state = s;
     for steps in 0..most {
-        if let Some(end) = end_of(decide(
-            method.code,
-            method.kinds,
-            method.words,
-            method.handlers,
-            slots,
-            state,
-        )) {
+        if let Err(halt) = decide(method, slots, state) {
+            let end = Some(halt);
             return Ok(Walked { state, steps, end });
         }
         print_step(rt, steps, method.code, slots, state)?;
-        state = step(
-            method.code,
-            method.kinds,
-            method.words,
-            method.handlers,
-            slots,
-            state,
-        )
-        .state;
+        state = step(method, slots, state).state;
     }
     Ok(Walked {
         state,
         steps: most,
-        end: End::Stopped,
+        end: None,
     })
 }

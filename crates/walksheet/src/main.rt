@@ -20,7 +20,7 @@ fn main(rt: HostRuntime) -> io::Result<()> {
         words: vec![in rt.alloc(); 0u32; 4096]?,
     };
     match pool.load(&sheet, &mut slots) {
-        Err(refusal) => println!(rt; "sheet {refusal}"),
+        Err(refusal) => println!(rt; "sheet {}", refusal.number()),
         Ok(loaded) => {
             let method = pool.method(&sheet, loaded);
             let walked = walk(&rt, &method, &mut slots, loaded.state, MOST)?;
