@@ -15,14 +15,10 @@ const DIMENSIONS: usize = 255;
 fn is_base(c: u8) -> bool
     ensures { result ≡ is_base c }
 {
-    (c == BYTE)
-        | (c == CHAR)
-        | (c == DOUBLE)
-        | (c == FLOAT)
-        | (c == INT)
-        | (c == LONG)
-        | (c == SHORT)
-        | (c == BOOLEAN)
+    matches!(
+        c,
+        BYTE | CHAR | DOUBLE | FLOAT | INT | LONG | SHORT | BOOLEAN
+    )
 }
 
 // The offset after the brackets, of which it passes at most 255.
@@ -65,8 +61,8 @@ pub(crate) fn field_end(d: &[u8], at: usize) -> Option<usize>
 pub(crate) fn places_of(first: u8) -> u32
     ensures { result ≡ places (kind_of first) }
 {
-    if (first == LONG) | (first == DOUBLE) {
-        return 2;
+    match first {
+        LONG | DOUBLE => 2,
+        _ => 1,
     }
-    1
 }

@@ -12,35 +12,44 @@ use operands::read_code_u8;
 fn is_of_names(c: u8) -> bool
     ensures { result ≡ is_of_names c }
 {
-    !((c == DOT) | (c == SEMICOLON) | (c == ARRAY) | (c == SLASH))
+    !matches!(c, DOT | SEMICOLON | ARRAY | SLASH)
 }
 
 // Whether a byte goes on with a character.
 fn continues(b: u8) -> bool
     ensures { result ≡ continues b }
 {
-    (0x80 <= b) & (b <= 0xBF)
+    matches!(b, 0x80..=0xBF)
 }
 
 // A character of one byte.
 fn is_one_byte(a: u8) -> bool
     ensures { result ≡ is_one_byte a }
 {
-    (1 <= a) & (a <= 0x7F) & is_of_names(a)
+    matches!(a, 1..=0x7F) && is_of_names(a)
 }
 
 // A character of two bytes.
 fn is_two_bytes(a: u8, b: u8) -> bool
     ensures { result ≡ is_two_bytes a b }
 {
-    ((a == 0xC0) & (b == 0x80)) | ((0xC2 <= a) & (a <= 0xDF) & continues(b))
+    match a {
+        0xC0 => b == 0x80,
+        0xC2..=0xDF => continues(b),
+        _ => false,
+    }
 }
 
 // A character of three bytes.
 fn is_three_bytes(a: u8, b: u8, c: u8) -> bool
     ensures { result ≡ is_three_bytes a b c }
 {
-    (((a == 0xE0) & (0xA0 <= b)) | ((0xE1 <= a) & (a <= 0xEF))) & continues(b) & continues(c)
+    let begins = match a {
+        0xE0 => 0xA0 <= b,
+        0xE1..=0xEF => true,
+        _ => false,
+    };
+    begins && continues(b) && continues(c)
 }
 
 // How many of three bytes are a character of a name, if one begins there.

@@ -2,3 +2,4 @@
 mod Answers
 mod Fronts
 mod Passed
+mod Rows

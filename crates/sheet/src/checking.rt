@@ -1,17 +1,16 @@
 // The whole sheet, record by record, and the memory that its method asks for.
-ghost use Rattle.std.specs.Prelude.{◌≡◌, ◌≤◌, ◌||◌, length};
-ghost use Rattle.rules.specs.Check.{◌=ⁿ◌, ◌<ⁿ◌};
-ghost use Rattle.rules.specs.Sheet.{record_end, contents_read, marked_check, record_check, unread, sheet_check, memory_check};
+ghost use Rattle.std.specs.Prelude.{◌≡◌, ◌+◌, ◌≤◌};
+ghost use Rattle.rules.specs.Sheet.{contents_read, marked_check, record_check, unread, sheet_check};
+ghost use Rattle.sheet.specs.Rows.{is_enough};
 
 use crate::contents::{read_arguments, read_code, read_constant, read_sizes, read_types};
 use crate::handler_records::read_handler;
 use crate::marks::{ends_sheet, known_mark, may_follow, right_length};
-use crate::records::{NextRecord, Records};
+use crate::records::{NextRecord, Record, Records};
 use rules::{Mark, Reading, Refusal};
 
 // What a record of this mark says, where its contents are good.
 fn read_contents(next: &NextRecord, mark: Mark) -> Result<Reading, Refusal>
-    requires { record_end next.now.record.sheet.now next.now.record.at ≤ length next.now.record.sheet.now }
     ensures { result ≡ contents_read next.now.record.sheet.now next.now.record.at next.now.before mark }
 {
     match mark {
@@ -26,7 +25,6 @@ fn read_contents(next: &NextRecord, mark: Mark) -> Result<Reading, Refusal>
 
 // A record whose mark is known: its place, its length and its contents.
 fn check_marked(next: &NextRecord, mark: Mark) -> Result<Reading, Refusal>
-    requires { record_end next.now.record.sheet.now next.now.record.at ≤ length next.now.record.sheet.now }
     ensures { result ≡ marked_check next.now.record.sheet.now next.now.record.at next.now.before mark }
 {
     if !may_follow(mark, next.before.last) {
@@ -39,18 +37,19 @@ fn check_marked(next: &NextRecord, mark: Mark) -> Result<Reading, Refusal>
 }
 
 // The next record, after what has been read before it.
-fn check_record(next: &NextRecord) -> Result<Reading, Refusal>
-    ensures { result ≡ record_check next.now.record.sheet.now next.now.record.at next.now.before }
+fn check_record(record: Record, before: Reading) -> Result<Reading, Refusal>
+    requires { (before.code + before.code_length ≤ before.handlers) × (before.handlers ≤ record.at) }
+    ensures { result ≡ record_check record.entry.sheet.now record.entry.at before }
 {
-    let length = next.record.sheet.len();
-    if length < next.record.body() {
+    let length = record.sheet.len();
+    if length < record.body() {
         return Err(Refusal::RecordCut);
     }
-    if length < next.record.end() {
+    if length < record.end() {
         return Err(Refusal::RecordCut);
     }
-    let mark = known_mark(next.record.mark())?;
-    check_marked(next, mark)
+    let mark = known_mark(record.mark())?;
+    check_marked(&NextRecord { record, before }, mark)
 }
 
 // Nothing read yet.
@@ -71,7 +70,7 @@ pub fn check_sheet(sheet: &[u8]) -> Result<Reading, Refusal>
         end: sheet.len(),
     };
     for record in records {
-        p = check_record(&NextRecord { record, before: p })?;
+        p = check_record(record, p)?;
     }
     if !ends_sheet(p.last) {
         return Err(Refusal::RecordOrder);
@@ -79,33 +78,13 @@ pub fn check_sheet(sheet: &[u8]) -> Result<Reading, Refusal>
     Ok(p)
 }
 
-// Whether the kinds are longer than the highest pool index used, if one is.
-fn reaches(used: u32, kinds: &[u8]) -> bool
-    ensures { result ≡ ((used =ⁿ 0) || (used <ⁿ length kinds.now)) }
-{
-    used == 0 || (used as usize) < kinds.len()
-}
-
 // Whether the lent memory reaches.
-pub(crate) fn check_memory(
-    p: Reading,
-    slots: &[u32],
-    kinds: &[u8],
-    words: &[u32],
-) -> Result<(), Refusal>
-    ensures { result ≡ memory_check p slots.now kinds.now words.now }
+pub(crate) fn is_enough(p: &Reading, slots: &[u32], kinds: &[u8], words: &[u32]) -> bool
+    ensures { result ≡ is_enough p.now slots.now kinds.now words.now }
 {
-    if slots.len() < p.max_locals as usize + p.max_stack as usize {
-        return Err(Refusal::LentMemory);
-    }
-    if !reaches(p.used, kinds) {
-        return Err(Refusal::LentMemory);
-    }
-    if kinds.len() != words.len() {
-        return Err(Refusal::LentMemory);
-    }
-    if kinds.len() > 65536 {
-        return Err(Refusal::LentMemory);
-    }
-    Ok(())
+    let frame = p.max_locals as usize + p.max_stack as usize;
+    frame <= slots.len()
+        && (p.used == 0 || (p.used as usize) < kinds.len())
+        && kinds.len() == words.len()
+        && kinds.len() <= 65536
 }

@@ -1,8 +1,9 @@
 // What a record of each mark is asked, and what it adds to what has been read.
-ghost use Rattle.std.specs.Prelude.{◌≡◌, not, ◌||◌, ◌≤◌, length};
+ghost use Rattle.std.specs.Prelude.{◌≡◌, not, ◌||◌};
 ghost use Rattle.rules.specs.declared.sheets.Mark.TheVariants.{LM, DS, CD, KI, AR};
 ghost use Rattle.rules.specs.Check.{◌=ⁿ◌};
-ghost use Rattle.rules.specs.Sheet.{record_end, is_described, contents_check, contents_read};
+ghost use Rattle.rules.specs.Sheet.{is_described, contents_check, contents_read};
+ghost use Rattle.sheet.specs.Rows.{is_constant};
 
 use crate::marks::{tag_suits, word_suits};
 use crate::records::NextRecord;
@@ -28,7 +29,6 @@ pub(crate) fn read_sizes(next: &NextRecord) -> Result<Reading, Refusal>
 
 // DS: the places of the parameters, and the return type.
 pub(crate) fn read_types(next: &NextRecord) -> Result<Reading, Refusal>
-    requires { record_end next.now.record.sheet.now next.now.record.at ≤ length next.now.record.sheet.now }
     ensures { result ≡ contents_read next.now.record.sheet.now next.now.record.at next.now.before DS }
 {
     let described = read_descriptor(next.record.descriptor())?;
@@ -54,32 +54,23 @@ pub(crate) fn read_code(next: &NextRecord) -> Result<Reading, Refusal>
 }
 
 // KI: its tag, the word of a class, and its indices above all used.
-fn check_constant(next: &NextRecord) -> Result<(), Refusal>
-    ensures { result ≡ contents_check next.now.record.sheet.now next.now.record.at next.now.before KI }
+fn is_constant(next: &NextRecord) -> bool
+    ensures { result ≡ is_constant next.now.record.sheet.now next.now.record.at next.now.before }
 {
     let tag = next.record.tag();
-    let size = next.record.body_length();
-    if !tag_suits(tag, size) {
-        return Err(Refusal::ConstantRecord);
-    }
-    if !word_suits(tag, next.record.word()) {
-        return Err(Refusal::ConstantRecord);
-    }
-    let index = next.record.pool_index() as u32;
-    if index <= next.before.used {
-        return Err(Refusal::ConstantRecord);
-    }
-    if next.record.last_index() > 65535 {
-        return Err(Refusal::ConstantRecord);
-    }
-    Ok(())
+    tag_suits(tag, next.record.body_length())
+        && word_suits(tag, next.record.word())
+        && next.before.used < next.record.pool_index() as u32
+        && next.record.last_index() <= 65535
 }
 
 // KI: a constant, and the last index that it uses.
 pub(crate) fn read_constant(next: &NextRecord) -> Result<Reading, Refusal>
     ensures { result ≡ contents_read next.now.record.sheet.now next.now.record.at next.now.before KI }
 {
-    check_constant(next)?;
+    if !is_constant(next) {
+        return Err(Refusal::ConstantRecord);
+    }
     Ok(Reading {
         last: Some(Mark::KI),
         used: next.record.last_index(),

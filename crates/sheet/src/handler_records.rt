@@ -1,7 +1,8 @@
 // EX records: the handlers of the method (JVMS 4.7.3).
 ghost use Rattle.std.specs.Prelude.{◌≡◌};
 ghost use Rattle.rules.specs.declared.sheets.Mark.TheVariants.{EX};
-ghost use Rattle.rules.specs.Sheet.{is_catch_type, contents_check, contents_read};
+ghost use Rattle.rules.specs.Sheet.{is_catch_type, contents_read};
+ghost use Rattle.sheet.specs.Rows.{is_handler};
 
 use crate::records::{NextRecord, Records};
 use rules::{Mark, Reading, Refusal};
@@ -31,37 +32,26 @@ fn is_catch_type(next: &NextRecord, catch_type: u16) -> bool
 }
 
 // Eight bytes; start below end; start and handler inside the code, and end at most its length; a catch type.
-fn check_handler(next: &NextRecord) -> Result<(), Refusal>
-    ensures { result ≡ contents_check next.now.record.sheet.now next.now.record.at next.now.before EX }
+fn is_handler(next: &NextRecord) -> bool
+    ensures { result ≡ is_handler next.now.record.sheet.now next.now.record.at next.now.before }
 {
-    if next.record.body_length() != 8 {
-        return Err(Refusal::HandlerRecord);
-    }
     let start = next.record.u16_at(START_PC);
     let end = next.record.u16_at(END_PC);
-    if end <= start {
-        return Err(Refusal::HandlerRecord);
-    }
-    if next.before.code_length <= start as usize {
-        return Err(Refusal::HandlerRecord);
-    }
-    if next.before.code_length <= next.record.u16_at(HANDLER_PC) as usize {
-        return Err(Refusal::HandlerRecord);
-    }
-    if next.before.code_length < end as usize {
-        return Err(Refusal::HandlerRecord);
-    }
-    if !is_catch_type(next, next.record.u16_at(CATCH_TYPE)) {
-        return Err(Refusal::HandlerRecord);
-    }
-    Ok(())
+    next.record.body_length() == 8
+        && start < end
+        && (start as usize) < next.before.code_length
+        && (next.record.u16_at(HANDLER_PC) as usize) < next.before.code_length
+        && end as usize <= next.before.code_length
+        && is_catch_type(next, next.record.u16_at(CATCH_TYPE))
 }
 
 // EX: nothing but that the record has been read; where the handlers begin is known from the record before them.
 pub(crate) fn read_handler(next: &NextRecord) -> Result<Reading, Refusal>
     ensures { result ≡ contents_read next.now.record.sheet.now next.now.record.at next.now.before EX }
 {
-    check_handler(next)?;
+    if !is_handler(next) {
+        return Err(Refusal::HandlerRecord);
+    }
     Ok(Reading {
         last: Some(Mark::EX),
         ..next.before

@@ -3,7 +3,7 @@ ghost use Rattle.std.specs.Prelude.{◌≡◌, ◌+◌, ◌≤◌};
 ghost use Rattle.rules.specs.Sheet.{sheet_check, loaded_state, accepted_load, refused_load, load_of, part_of, code_of, handlers_of};
 ghost use Rattle.sheet.specs.Filled.{after_load};
 
-use crate::checking::{check_memory, check_sheet};
+use crate::checking::{check_sheet, is_enough};
 use crate::filling::{fill_pool, fill_slots};
 use crate::records::Records;
 use rules::{Loaded, Reading, Refusal, State};
@@ -62,8 +62,8 @@ pub fn load_read(
     requires { sheet_check sheet.now ≡ Ok p }
     ensures { after_load result slots.new kinds.new words.new ≡ load_of sheet.now slots.old kinds.old words.old }
 {
-    if let Err(refusal) = check_memory(p, slots, kinds, words) {
-        return refused_load(refusal);
+    if !is_enough(&p, slots, kinds, words) {
+        return refused_load(Refusal::LentMemory);
     }
     let constants = Records {
         sheet,

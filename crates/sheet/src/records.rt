@@ -162,11 +162,12 @@ impl Records<'_> {
     }
 }
 
-// The next record of a sheet, and what was read before it.
+// The next record of a sheet, which is whole, and what was read before it.
 #[derive(Clone, Copy)]
 pub(crate) struct NextRecord<'a> {
     pub(crate) record: Record<'a>,
     pub(crate) before: Reading,
+    pub ghost whole: { record_end record.sheet.now record.at ≤ length record.sheet.now },
     pub ghost code_first: { before.code + before.code_length ≤ before.handlers },
     pub ghost handlers_before: { before.handlers ≤ record.at },
 }

@@ -19,10 +19,6 @@ loop-record-init c = let sheet = c.args.sheet.now in
       placed = rw c.unread-p.ensures (nothing_read sheet);
     })
 
-pub invariant_of-check_record : goal.invariant_of-check_record
-invariant_of-check_record c = let t = c.loop-record in
-    record { code_first = t.invariant.placed.within.code_first; handlers_before = rw c.in-Some.ensures.steps.same_place t.invariant.placed.handlers_before }
-
 pub returns-in_err-p : goal.returns-in_err-p
 returns-in_err-p c = let t = c.loop-record in
     let e = err_from_is_err_and c.from_residual.result c.from_residual.ensures.1 in

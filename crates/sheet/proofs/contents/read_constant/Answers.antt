@@ -1,17 +1,16 @@
 -- `read_constant` meets its contract. Assumes nothing.
 use Rattle.std.proofs.Common.{sym, ◌∙◌}
-use Rattle.std.proofs.lemmas.Result.{err_from_is_err_and}
 use Rattle.rules.specs.declared.sheets.Mark.TheVariants.{KI}
 use Rattle.rules.specs.Sheet.{with_record}
 use Rattle.rules.proofs.Sheet.{bad_contents, good_contents}
+use Rattle.sheet.proofs.Rows.{yes, no, constant_row}
 use Rattle.sheet.proofs.contents.read_constant.Goals as goal
 
-pub returns-in_err-check_constant : goal.returns-in_err-check_constant
-returns-in_err-check_constant c = let n = c.args.next.now in
-    let e = err_from_is_err_and c.from_residual.result c.from_residual.ensures.1 in
-    rw (e.1, e.2) (sym (bad_contents n.record.sheet.now n.record.at n.before KI _ (sym c.in_err-check_constant.ensures)))
+pub returns-then-not-is_constant : goal.returns-then-not-is_constant
+returns-then-not-is_constant c = let n = c.args.next.now in
+    sym (bad_contents n.record.sheet.now n.record.at n.before KI _ (no _ _ _ _ (constant_row n.record.sheet.now n.record.at n.before) c.is_constant.ensures c.if-not-is_constant.true))
 
 pub returns : goal.returns
 unfolding with_record
 returns c = let n = c.args.next.now in
-    sym (good_contents n.record.sheet.now n.record.at n.before KI (sym c.in_ok-check_constant.ensures) ∙ simp (← c.last_index.ensures, ← c.end.ensures))
+    sym (good_contents n.record.sheet.now n.record.at n.before KI (yes _ _ _ _ (constant_row n.record.sheet.now n.record.at n.before) c.is_constant.ensures c.if-not-is_constant.false) ∙ simp (← c.last_index.ensures, ← c.end.ensures))

@@ -1,7 +1,5 @@
 -- `write_arguments` meets its contract. The loop's invariant: the first i words are arguments. Assumes nothing.
-use Rattle.std.proofs.Common.{ℕ, ◌+◌, ◌<◌, ◌≡◌, List, ◌++◌, length, drop, refl, ap, ◌∙◌, arith}
-use lib.ListN.{drop_of_length-le}
-use mathlib.Core.List.{append-nil}
+use Rattle.std.proofs.Common.{ℕ, ◌+◌, ◌<◌, List, ◌++◌, length, drop, refl, ap, ◌∙◌, arith}
 use Rattle.rules.specs.Sheet.{arguments_from}
 use Rattle.rules.proofs.AcceptedLoad.{length_arguments}
 use Rattle.sheet.proofs.Fronts.{front_set, one_more_argument}
@@ -20,7 +18,3 @@ loop-i-preserved c = let t = c.loop-i in
           (front_set (arguments_from a.sheet.now a.at t.i) a.slots.now t.i _ (length_arguments a.sheet.now a.at t.i) h
           ∙ ap (λ (ws : List ℕ). ws ++ drop (t.i + 1) a.slots.now) (one_more_argument a.sheet.now a.at t.i)),
     )
-
-pub returns : goal.returns
-returns c = let past : c.loop-i.i ≡ length c.args.slots.now = omega arith in
-    rw (c.loop-i.invariant.1, past, drop_of_length-le c.args.slots.now {i = length c.args.slots.now} (omega arith)) (append-nil _)

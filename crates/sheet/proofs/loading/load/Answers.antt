@@ -3,9 +3,6 @@ use Rattle.std.proofs.Common.{sym}
 use Rattle.rules.proofs.Sheet.{load_refused}
 use Rattle.sheet.proofs.loading.load.Goals as goal
 
-pub load_read-requires : goal.load_read-requires
-load_read-requires c = sym c.in-Ok.ensures
-
 pub returns-in-Err : goal.returns-in-Err
 returns-in-Err c = let a = c.args in
     rw c.refused_load.ensures (load_refused a.sheet.now a.slots.now a.kinds.now a.words.now _ (sym c.in-Err.ensures))

@@ -1,14 +1,15 @@
 -- `load_read` meets its contract. Assumes nothing.
-use mathlib.Core.Path.{sym, ◌∙◌}
 use native.Mathlib.Omega.{arith}
 use Rattle.rules.proofs.Sheet.{load_short, load_accepted}
 use Rattle.sheet.specs.Filled.{pool}
+use Rattle.sheet.proofs.Rows.{yes, no, memory_row}
 use Rattle.sheet.proofs.Answers.{slots_reach, whole}
 use Rattle.sheet.proofs.loading.load_read.Goals as goal
 
-pub returns-in-Err : goal.returns-in-Err
-returns-in-Err c = let a = c.args in
-    rw c.refused_load.ensures (load_short a.sheet.now a.slots.now a.kinds.now a.words.now a.p c.requires _ (sym c.in-Err.ensures))
+pub returns-then-not-is_enough : goal.returns-then-not-is_enough
+returns-then-not-is_enough c = let a = c.args in
+    rw c.refused_load.ensures (load_short a.sheet.now a.slots.now a.kinds.now a.words.now a.p c.requires _
+    (no _ _ _ _ (memory_row a.p a.slots.now a.kinds.now a.words.now) c.is_enough.ensures c.if-not-is_enough.true))
 
 pub overflow_add-constants : goal.overflow_add-constants
 overflow_add-constants c = let w = whole c.args.sheet.now c.args.p c.requires in omega arith
@@ -19,7 +20,7 @@ invariant_of-constants c = let w = whole c.args.sheet.now c.args.p c.requires in
 pub fill_slots-requires : goal.fill_slots-requires
 fill_slots-requires c = let a = c.args in
     let w = whole a.sheet.now a.p c.requires in
-    (w.arguments_there, w.few_arguments, slots_reach a.p a.slots.now a.kinds.now a.words.now (sym c.check_memory.ensures ∙ c.in_default.is))
+    (w.arguments_there, w.few_arguments, slots_reach a.p a.slots.now a.kinds.now a.words.now (yes _ _ _ _ (memory_row a.p a.slots.now a.kinds.now a.words.now) c.is_enough.ensures c.if-not-is_enough.false))
 
 pub accepted_load-requires : goal.accepted_load-requires
 accepted_load-requires c = (whole c.args.sheet.now c.args.p c.requires).handlers_first
@@ -27,4 +28,4 @@ accepted_load-requires c = (whole c.args.sheet.now c.args.p c.requires).handlers
 pub returns : goal.returns
 returns c = let a = c.args in
     rw (c.accepted_load.ensures, c.fill_slots.ensures)
-    (load_accepted a.sheet.now a.slots.now a.kinds.now a.words.now a.p c.requires (sym c.check_memory.ensures ∙ c.in_default.is) (pool _ _) c.fill_pool.ensures)
+    (load_accepted a.sheet.now a.slots.now a.kinds.now a.words.now a.p c.requires (yes _ _ _ _ (memory_row a.p a.slots.now a.kinds.now a.words.now) c.is_enough.ensures c.if-not-is_enough.false) (pool _ _) c.fill_pool.ensures)

@@ -4,9 +4,6 @@ use Rattle.sheet.specs.Records.{has_class}
 use Rattle.sheet.proofs.Passed.{class_passed, no_class_left}
 use Rattle.sheet.proofs.records.Records.has_class.Goals as goal
 
-pub loop-record-init : goal.loop-record-init
-loop-record-init c = ap (λ s. has_class s c.args.index) c.into_iter-record-iterator.ensures.into_iter_gives
-
 pub returns-then-is_class_at : goal.returns-then-is_class_at
 returns-then-is_class_at c = let i = c.args.index in
     sym (class_passed c.loop-record.record-iterator c.next.new.self c.in-Some.record c.in-Some.ensures.steps i ∙ ap (λ (b : Bool). b || has_class c.next.new.self i) (sym c.is_class_at.ensures ∙ c.if-is_class_at.true)) ∙ c.loop-record.invariant
