@@ -7,7 +7,7 @@ use const_pool::{Constant, ldc, ldc2_w};
 use instructions::opcodes::*;
 use rules::{Method, Refusal};
 
-// Up to four words, lowest first; those past the number that an instruction works on are any. They have names for the speed of a step (rules/src/updates).
+// Up to four words, lowest first; those past the number that an instruction works on are any. Named, and no array: rules/src/updates says why.
 #[derive(Clone, Copy)]
 pub(crate) struct Four {
     pub a: u32,
