@@ -6,15 +6,7 @@ ghost use Rattle.values.specs.Kinds.{int, long, float, double};
 ghost use Rattle.const_pool.specs.Constant.{constant_of};
 
 use rules::Refusal;
-
-// The tags of JVMS 4.4.
-const CONSTANT_INTEGER: u8 = 3;
-
-const CONSTANT_FLOAT: u8 = 4;
-
-const CONSTANT_LONG: u8 = 5;
-
-const CONSTANT_DOUBLE: u8 = 6;
+use rules::tags::*;
 
 // A constant's words, the high one 0 where it has one word.
 #[derive(Clone, Copy)]

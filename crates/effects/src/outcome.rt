@@ -8,7 +8,7 @@ ghost use Rattle.effects.specs.Effects.{effect_of};
 use integers::{Integer, high_word, low_word};
 use values::Value;
 
-// Up to six words, lowest first; those past the number that an instruction gives are 0. They have names for the speed of a step (rules/src/updates).
+// Up to six words, lowest first; those past the number that an instruction gives are 0. Named, and no array: rules/src/updates says why.
 #[derive(Clone, Copy)]
 pub struct Six {
     pub w0: u32,

@@ -3,12 +3,10 @@ ghost use Rattle.std.specs.Prelude.{◌≡◌, ◌+◌, ◌≤◌, length, get_o
 ghost use Rattle.rules.specs.Handlers.{covers, takes, catches, handler_at};
 
 use operands::{read_code_u8, read_code_u16};
+use rules::tags::CONSTANT_CLASS;
 
 // The bytes of an entry: an EX record of the sheet.
 const ENTRY: usize = 12;
-
-// The tag of a class (JVMS 4.4).
-const CONSTANT_CLASS: u8 = 7;
 
 // Whether the range of the entry at an offset of the part has a place in the code; its end is excluded.
 fn is_covered(handlers: &[u8], at: usize, pc: u32) -> bool

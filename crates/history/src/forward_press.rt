@@ -12,7 +12,7 @@ use interpreter::{advance, moved};
 use return_types::settle;
 use rules::{Decision, Halt, Method, Pressed, Refusal, State, Update};
 
-// The state after a press, and its answer.
+// The state after a press, and its answer: no Result, for a press that is not granted has the state that it got (RULES, 'Outcomes').
 #[derive(Clone, Copy)]
 pub struct PressResult {
     pub state: State,

@@ -18,7 +18,7 @@ fn count(n: &mut u64) {
 }
 
 impl Tally {
-    // Counts a press, by its byte and the number of its answer.
+    // Counts a press, by its byte and the number of its answer, as the C interface has them.
     fn count_press(&mut self, byte: u8, number: u32) {
         count(&mut self.presses);
         match (number, byte) {

@@ -10,7 +10,7 @@ use std::alloc::{AllocError, Global};
 use std::io;
 use walks::Pool;
 
-// Prints an answer: its number, and the value of a return.
+// Prints an answer as the C interface has it, in words: its number, and the value of a return.
 fn print_answer(rt: &impl Print, answer: &[u32; 3]) -> io::Result<()> {
     let [number, low, high] = *answer;
     match number {

@@ -19,6 +19,7 @@ pub fn read_full<R: Read>(input: &mut R, buffer: &mut [u8]) -> io::Result<usize>
     ensures end { IfOk result (λ n. n < length buffer.new → IsAtEnd (R.remaining input.new)) }
 {
     let mut count = 0;
+    // no `for`: only a read says how many bytes it gave
     while count < buffer.len() {
         let n = input.read(&mut buffer[count..])?;
         if n == 0 {

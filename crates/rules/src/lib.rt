@@ -6,6 +6,7 @@ mod methods;
 mod refusals;
 mod sheets;
 mod states;
+pub mod tags;
 mod updates;
 
 pub use halts::{Decision, End, Halt, Pressed};
@@ -16,7 +17,7 @@ pub use states::State;
 pub use updates::Update;
 
 // A line of the page of opcodes: an opcode, its length in bytes, and the places that it pops and pushes. Length 0 marks a switch, 254 WIDE and 255 an opcode outside
-// the core.
+// the core: numbers and no enum, for the page prints them so.
 #[derive(Clone, Copy)]
 pub struct OpcodeLine {
     pub opcode: u8,

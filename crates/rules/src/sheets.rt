@@ -31,7 +31,7 @@ pub struct Reading {
     pub argument_count: usize,
 }
 
-// What a load gives in every case: whether it is accepted, the state, and where the code and the handlers lie in the sheet. A refused one gives a state of zeros and
+// What a load gives in every case, so that it is no Result (RULES, 'The sheet'): whether it is accepted, the state, and where the code and the handlers lie in the sheet. A refused one gives a state of zeros and
 // twice the empty part at the sheet's start.
 #[derive(Clone, Copy)]
 pub struct Loaded {

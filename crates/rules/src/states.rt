@@ -1,7 +1,7 @@
 // Where a method stands.
 
-// Its two sizes, the program counter, the operand stack's depth, how many steps can be taken back, and the method's return type, a character of its descriptor; a number
-// that is no return type's counts as 0. In this order of its fields a state has 24 bytes, and none that pads it.
+// Its two sizes, the program counter, the operand stack's depth, how many steps can be taken back, and the method's return type, a character of its descriptor: a
+// number, for the C interface has it as a word, and one that is no return type's counts as 0. In this order of its fields a state has 24 bytes, and none that pads it.
 #[derive(Clone, Copy)]
 pub struct State {
     pub max_stack: u16,

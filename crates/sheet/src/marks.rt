@@ -2,6 +2,7 @@
 ghost use Rattle.std.specs.Prelude.{◌≡◌};
 ghost use Rattle.rules.specs.Sheet.{is_last, is_narrow, tag_suits, word_suits, known_mark, follows, right_length};
 
+use rules::tags::*;
 use rules::{Mark, Refusal};
 
 // The marks in ASCII.
@@ -21,17 +22,6 @@ const AR: u16 = 0x4152;
 const NARROW_CONSTANT: u16 = 7;
 
 pub(crate) const WIDE_CONSTANT: u16 = 11;
-
-// The tags of JVMS 4.4.
-const CONSTANT_INTEGER: u8 = 3;
-
-const CONSTANT_FLOAT: u8 = 4;
-
-const CONSTANT_LONG: u8 = 5;
-
-const CONSTANT_DOUBLE: u8 = 6;
-
-pub(crate) const CONSTANT_CLASS: u8 = 7;
 
 // The mark of two bytes.
 pub(crate) fn known_mark(bytes: u16) -> Result<Mark, Refusal>

@@ -3,15 +3,3 @@ use Rattle.return_types.proofs.given_back.Goals as goal
 
 pub returns-in-Int : goal.returns-in-Int
 returns-in-Int c = simp (c.in-Int.is, ← c.narrow.ensures)
-
-pub returns-in-Float : goal.returns-in-Float
-returns-in-Float c = simp c.in-Float.is
-
-pub returns-in-Reference : goal.returns-in-Reference
-returns-in-Reference c = simp c.in-Reference.is
-
-pub returns-in-Long : goal.returns-in-Long
-returns-in-Long c = simp c.in-Long.is
-
-pub returns-in-Double : goal.returns-in-Double
-returns-in-Double c = simp c.in-Double.is
