@@ -3,9 +3,10 @@ ghost use Rattle.std.specs.Prelude.{◌≡◌, ◌+◌, ◌≤◌, length};
 ghost use Rattle.rules.specs.Fetch.{u8, u16, u32};
 ghost use Rattle.rules.specs.Sheet.{descriptor_at, body_at, body_length, record_end, is_wide, pool_index, pool_tag, pool_word, is_class_at, last_index};
 
-use crate::marks::{CONSTANT_CLASS, WIDE_CONSTANT};
+use crate::marks::WIDE_CONSTANT;
 use operands::{read_code_u8, read_code_u16, read_code_u32};
 use rules::Reading;
+use rules::tags::CONSTANT_CLASS;
 
 // A record, by the offset of its mark.
 #[derive(Clone, Copy)]
