@@ -32,7 +32,7 @@ const VOID: u32 = 0x56;
 
 const BOOLEAN: u32 = 0x5A;
 
-// Whether a number is a return type.
+// Whether a number is a return type. Arms, and no `matches!`: of its or-pattern the check finds no goal by itself.
 fn is_return_type(t: u32) -> bool
     ensures { result ≡ is_return_type t }
 {

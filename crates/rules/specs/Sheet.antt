@@ -34,6 +34,7 @@ known_mark n =
     (cond (n =ⁿ 0x4152) (Ok AR)
     (Err Refusal.UnknownMark))))))
 
+-- a mark by its number, so that two can be compared
 abbrev pub mark_number : Mark → ℕ
 mark_number LM = 1
 mark_number DS = 2
@@ -50,12 +51,11 @@ last_number (Some m) = mark_number m
 abbrev pub is_last : Mark → Option Mark → Bool
 is_last m last = last_number last =ⁿ mark_number m
 
--- the order: LM, at most one DS, CD, any number of KI, any number of EX, AR
-
 -- no constant comes any more: EX and AR stand after CD, after a KI or after an EX
 abbrev pub ends_pool : Option Mark → Bool
 ends_pool last = is_last CD last || is_last KI last || is_last EX last
 
+-- the order: LM, at most one DS, CD, any number of KI, any number of EX, AR
 abbrev pub follows : Mark → Option Mark → Bool
 follows LM last = last_number last =ⁿ 0
 follows DS last = is_last LM last

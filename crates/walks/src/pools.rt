@@ -22,10 +22,7 @@ impl Pool {
             (λ refusal. (loaded : Loaded) × (loaded.answer ≡ Err refusal) × (after_load loaded slots.new self.new.kinds.items self.new.words.items ≡ load_of sheet.now slots.old self.old.kinds.items self.old.words.items)) }
     {
         let loaded = load(sheet, slots, &mut self.kinds, &mut self.words);
-        match loaded.answer {
-            Ok(()) => Ok(loaded),
-            Err(refusal) => Err(refusal),
-        }
+        loaded.answer.map(|()| loaded)
     }
 
     // The method of a sheet that was loaded.

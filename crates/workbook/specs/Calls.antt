@@ -52,7 +52,7 @@ unchanged slots log state answer n = record { number = n; slots = slots; log = l
 
 abbrev pub call_by : List ℕ → List ℕ → List ℕ → List ℕ → AfterPress → Check (Unit {0}) → Called
 call_by slots log state answer o (Ok t) = called state answer o
-call_by slots log state answer o (Err r\') = unchanged slots log state answer (number_of r\')
+call_by slots log state answer o (Err k) = unchanged slots log state answer (number_of k)
 
 abbrev pub stepped : List ℕ → List ℕ → Stepped → Called
 stepped state answer r =
@@ -61,7 +61,7 @@ stepped state answer r =
 
 abbrev pub step_call_by : List ℕ → List ℕ → List ℕ → Stepped → Check (Unit {0}) → Called
 step_call_by slots state answer r (Ok t) = stepped state answer r
-step_call_by slots state answer r (Err r\') = unchanged slots [] state answer (number_of r\')
+step_call_by slots state answer r (Err k) = unchanged slots [] state answer (number_of k)
 
 unfoldable pub step_call : Machine → List ℕ → List ℕ → List ℕ → Called
 step_call x slots state answer = step_call_by slots state answer (step_of x (state_in state) slots) (do
@@ -77,7 +77,7 @@ forward_call x slots log state answer = call_by slots log state answer (forward_
 abbrev pub back_by : List ℕ → List ℕ → List ℕ → AfterPress → Check (Unit {0}) → Called
 back_by slots log state o (Ok t) =
     record { number = (pressed_answer o.answer).number; slots = o.slots; log = o.log; state = state_after state o.state o.answer; answer = [] }
-back_by slots log state o (Err r\') = unchanged slots log state [] (number_of r\')
+back_by slots log state o (Err k) = unchanged slots log state [] (number_of k)
 
 unfoldable pub back_call : Method → List ℕ → List ℕ → List ℕ → Called
 back_call l slots log state = back_by slots log state (back_of l (state_in state) slots log) (do
@@ -98,11 +98,11 @@ ran_call state answer r =
 -- sizes that no state has are question 1's no: the four answer words are 0
 abbrev pub run_by : List ℕ → List ℕ → List ℕ → Ran → Check (Unit {0}) → Called
 run_by slots state answer r (Ok t) = ran_call state answer r
-run_by slots state answer r (Err r\') = unchanged slots [] state (with_steps answer 0 0 0) (number_of r\')
+run_by slots state answer r (Err k) = unchanged slots [] state (with_steps answer 0 0 0) (number_of k)
 
 abbrev pub run_for : List ℕ → List ℕ → List ℕ → Ran → Check (Unit {0}) → Called
 run_for slots state answer r (Ok t) = run_by slots state answer r (sizes_check state)
-run_for slots state answer r (Err r\') = unchanged slots [] state answer (number_of r\')
+run_for slots state answer r (Err k) = unchanged slots [] state answer (number_of k)
 
 unfoldable pub run_call : Machine → List ℕ → List ℕ → List ℕ → ℕ → Called
 run_call x slots state answer budget = run_for slots state answer (run_of x budget (state_in state) slots) (lengths_check state answer 4)
@@ -124,7 +124,7 @@ presses_by bytes slots log state answers r (Err n) = unchanged slots log state (
 
 abbrev pub presses_for : List ℕ → List ℕ → List ℕ → List ℕ → List ℕ → Replayed → Check (Unit {0}) → Called
 presses_for bytes slots log state answers r (Ok t) = presses_by bytes slots log state answers r (sizes_check state)
-presses_for bytes slots log state answers r (Err r\') = unchanged slots log state answers (number_of r\')
+presses_for bytes slots log state answers r (Err k) = unchanged slots log state answers (number_of k)
 
 unfoldable pub presses_call : Machine → List ℕ → List ℕ → List ℕ → List ℕ → List ℕ → Called
 presses_call x slots log state bytes answers =
