@@ -1,6 +1,6 @@
 -- Words written one by one, and into a part of a list that is lent on. Assumes nothing.
 use Prim.Native.Nat.{ℕ, ◌+◌, ◌-◌, ◌≤◌, ◌<◌}
-use mathlib.Core.Path.{◌≡◌, sym, ap, ◌∙◌}
+use mathlib.Core.Path.{◌≡◌, refl, sym, ap, ◌∙◌}
 use mathlib.Core.List.{List, [], ◌∷◌, ◌++◌, append_assoc}
 use native.Mathlib.Omega.{arith}
 use native.Mathlib.Nat.{add_assoc, add-zero}
@@ -8,7 +8,7 @@ use borrow.Rule.Slice.PartMut.{put_mid}
 use lib.Dec.{lit≤}
 use lib.ListN.{length, take, drop, set, take-append-drop, length-drop}
 use lib.Seq.{paste, paste-zero, paste-suc, length-take-le, take-append-add, drop-append-add}
-use Rattle.std.proofs.lemmas.List.{drop-drop}
+use Rattle.std.proofs.lemmas.Slice.{put_mid-paste}
 use Rattle.rules.proofs.Pasted.{paste_left}
 
 -- ---- one by one
@@ -46,7 +46,5 @@ paste_part l a e j n ws h k =
 
 -- ---- a part copied over
 
-pub copied : (l ws : List ℕ) (at n : ℕ) → put_mid at (at + n - at) l (take n ws) ≡ paste l at ws n
-copied l ws at n =
-    let count : at + n - at ≡ n = omega arith in
-    rw (count, drop-drop n at l) (simp append_assoc)
+pub copied : (l ws : List ℕ) (at : ℕ) → put_mid at (at + length ws - at) l ws ≡ paste l at ws (length ws)
+copied l ws at = put_mid-paste at _ l ws ws (length ws) refl (omega arith) refl

@@ -4,7 +4,6 @@
 mod places;
 mod questions;
 mod slots;
-mod stack;
 mod words;
 
 pub use places::{Placed, place};

@@ -16,25 +16,16 @@ pub fn check_frame(method: &Method, slots: &[u32], s: State) -> Result<(), Refus
 {
     let code = method.code;
     let kinds = method.kinds;
-    if kinds.len() != method.words.len() {
+    if kinds.len() != method.words.len()
+        || kinds.len() > MAX_POOL
+        || slots.len() < usize::from(s.max_locals) + usize::from(s.max_stack)
+    {
         return Err(Refusal::Lengths);
     }
-    if kinds.len() > MAX_POOL {
-        return Err(Refusal::Lengths);
-    }
-    if slots.len() < s.max_locals as usize + s.max_stack as usize {
-        return Err(Refusal::Lengths);
-    }
-    if code.len() < 1 {
+    if code.is_empty() || code.len() > MAX_CODE || code.len() <= s.pc as usize {
         return Err(Refusal::Code);
     }
-    if code.len() > MAX_CODE {
-        return Err(Refusal::Code);
-    }
-    if code.len() <= s.pc as usize {
-        return Err(Refusal::Code);
-    }
-    if s.depth > s.max_stack as u32 {
+    if s.depth > u32::from(s.max_stack) {
         return Err(Refusal::Depth);
     }
     Ok(())

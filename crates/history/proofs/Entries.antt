@@ -1,17 +1,18 @@
 -- An entry of the log: its old words; and by what was read of it, whether it is sound, and what it gives back. Assumes nothing.
-use Prim.Native.Nat.{ℕ, zero, suc, ◌+◌, ◌-◌, ◌≤◌, ◌<◌}
-use mathlib.Core.Path.{◌≡◌, refl, sym, ap, ◌∙◌}
+use Prim.Native.Nat.{ℕ, ◌+◌, ◌-◌, ◌≤◌, ◌<◌}
+use mathlib.Core.Path.{◌≡◌, refl, sym, ap}
 use mathlib.Core.Bool.{true, false}
-use mathlib.Core.List.{List, [], ◌∷◌}
+use mathlib.Core.List.{List, [], ◌∷◌, ◌++◌}
 use native.Mathlib.Omega.{arith}
 use lib.Dec.{leb}
-use lib.ListN.{length, get_or, take, drop, length-take, length-drop, get_or-append}
-use lib.Seq.{paste, paste-zero, length-paste, take_all, get_or-append-add, get_or-take, get_or-drop}
+use lib.ListN.{length, get_or, take, drop, length-drop}
+use lib.Seq.{paste, paste-zero, length-paste, take_all}
+use Rattle.std.proofs.lemmas.List.Edits.{paste-paste}
 use borrow.Author.Tests.{lt-ltb, le-ltb, le-leb, lt-leb, ne_eqb}
 use Rattle.rules.specs.declared.states.State.{State}
 use Rattle.rules.specs.Check.{◌else◌, ◌>>◌, is_passed}
 use Rattle.rules.specs.Step.{moved}
-use Rattle.rules.specs.History.{zeros6, old_words, entry_check, restored}
+use Rattle.rules.specs.History.{zeros6, old_words, undo_record, entry_check, restored}
 use Rattle.rules.proofs.Check.{last_asked}
 use Rattle.history.specs.declared.undo_log.Entry.{Entry}
 use Rattle.history.specs.Left.{entry_of, taken_back}
@@ -20,52 +21,22 @@ use Rattle.history.specs.Left.{entry_of, taken_back}
 pub rest : (l : List ℕ) (n : ℕ) → take (length l - n) (drop n l) ≡ drop n l
 rest l n = take_all (length l - n) (drop n l) (omega (arith, length-drop n l))
 
--- a list of six is its six words
-six_words : (l : List ℕ) → length l ≡ 6 → get_or l 0 0 ∷ get_or l 1 0 ∷ get_or l 2 0 ∷ get_or l 3 0 ∷ get_or l 4 0 ∷ get_or l 5 0 ∷ [] ≡ l
-six_words [] h = absurd (omega arith)
-six_words (a ∷ []) h = absurd (omega arith)
-six_words (a ∷ b ∷ []) h = absurd (omega arith)
-six_words (a ∷ b ∷ c ∷ []) h = absurd (omega arith)
-six_words (a ∷ b ∷ c ∷ d ∷ []) h = absurd (omega arith)
-six_words (a ∷ b ∷ c ∷ d ∷ e ∷ []) h = absurd (omega arith)
-six_words (a ∷ b ∷ c ∷ d ∷ e ∷ f ∷ []) h = refl
-six_words (a ∷ b ∷ c ∷ d ∷ e ∷ f ∷ g ∷ l) h = absurd (omega arith)
-
 -- ---- the old words of an undo record
 
-zeros : (i : ℕ) → get_or zeros6 i 0 ≡ 0
-zeros zero = refl
-zeros (suc zero) = refl
-zeros (suc (suc zero)) = refl
-zeros (suc (suc (suc zero))) = refl
-zeros (suc (suc (suc (suc zero)))) = refl
-zeros (suc (suc (suc (suc (suc zero))))) = refl
-zeros (suc (suc (suc (suc (suc (suc i)))))) = refl
+module _ (slots : List ℕ) (first many : ℕ) (few : many ≤ 6) (fits : first + many ≤ length slots) where
+  -- six words, 0 but for the first many, which are copied
+  pub copied : (old : List ℕ) → old ≡ take (first + many - first) (drop first slots) → old ++ drop many zeros6 ≡ old_words slots first many
+  copied old h =
+      let count : first + many - first ≡ many = omega arith in
+      let from : 0 + many ≡ many = omega arith in
+      rw (h, count, from)
 
-module _ (slots : List ℕ) (first many : ℕ) (fits : first + many ≤ length slots) where
-  kept_many : length (take many (drop first slots)) ≡ many
-  kept_many = simp (length-take, length-drop) (omega arith)
-
-  -- those of the places that are written
-  pub old_there : (i : ℕ) → i < many → get_or slots (first + i) 0 ≡ get_or (old_words slots first many) i 0
-  old_there i h =
-      let kept = take many (drop first slots) in
-      let within : i < length kept = omega (arith, kept_many) in
-      sym (get_or-append kept (drop (0 + many) zeros6) 0 i within ∙ get_or-take many (drop first slots) i 0 h ∙ get_or-drop first slots i 0)
-
-  -- and zeros
-  pub old_beyond : (i : ℕ) → many ≤ i → 0 ≡ get_or (old_words slots first many) i 0
-  old_beyond i h =
-      let place : length (take many (drop first slots)) + (i - many) ≡ i = omega (arith, kept_many) in
-      let index : (0 + many) + (i - many) ≡ i = omega arith in
-      sym
-      (ap (λ (k : ℕ). get_or (old_words slots first many) k 0) (sym place)
-      ∙ get_or-append-add (take many (drop first slots)) (drop (0 + many) zeros6) (i - many) 0
-      ∙ get_or-drop (0 + many) zeros6 (i - many) 0 ∙ ap (λ (k : ℕ). get_or zeros6 k 0) index ∙ zeros i)
-
-  pub six : many ≤ 6
-      → let old = old_words slots first many in get_or old 0 0 ∷ get_or old 1 0 ∷ get_or old 2 0 ∷ get_or old 3 0 ∷ get_or old 4 0 ∷ get_or old 5 0 ∷ [] ≡ old
-  six h = six_words _ (length-paste zeros6 0 (drop first slots) many (omega arith) (omega (arith, length-drop first slots)))
+  -- and written after the four words before them
+  pub recorded : (log : List ℕ) (at pc depth : ℕ) (old : List ℕ) → at ≤ length log → old ≡ old_words slots first many
+      → paste (paste log at (pc ∷ depth ∷ first ∷ many ∷ []) 4) (at + 4) old (length old) ≡ paste log at (undo_record pc depth first many slots) 10
+  recorded log at pc depth old h e =
+      let six : length (old_words slots first many) ≡ 6 = length-paste zeros6 0 (drop first slots) many (omega arith) (omega (arith, length-drop first slots)) in
+      rw (e, six) (paste-paste log at (pc ∷ depth ∷ first ∷ many ∷ []) (old_words slots first many) 4 6 refl (sym six) h)
 
 module _ (log : List ℕ) (k : ℕ) (e : Entry) (is : e ≡ entry_of log k) where
   pc_read : e.pc ≡ get_or log k 0

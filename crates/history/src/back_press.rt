@@ -17,10 +17,7 @@ fn check_back(method: &Method, slots: &[u32], log: &[u32], s: State) -> Result<(
     if s.count == 0 {
         return Err(Refusal::NothingToTakeBack);
     }
-    if entries(log) < s.count {
-        return Err(Refusal::LogEntry);
-    }
-    if !is_sound(method.code, log, s, s.count - 1) {
+    if entries(log) < s.count || !is_sound(method.code, log, s, s.count - 1) {
         return Err(Refusal::LogEntry);
     }
     Ok(())

@@ -1,8 +1,8 @@
 // Forward: a step with history.
-ghost use Rattle.std.specs.Prelude.{◌≡◌, ◌+◌, ◌≤◌, length};
+ghost use Rattle.std.specs.Prelude.{◌≡◌, length};
 ghost use Rattle.rules.specs.Lent.{lent};
 ghost use Rattle.rules.specs.Step.{core_machine};
-ghost use Rattle.rules.specs.Questions.{frame_size};
+ghost use Rattle.frame.specs.Fits.{Fits};
 ghost use Rattle.rules.specs.History.{log_check, granted_by, pressed_by, forward_of};
 ghost use Rattle.history.specs.Left.{pressed};
 
@@ -21,7 +21,7 @@ pub struct PressResult {
 
 // Question 11; then the undo record is written, and the step committed.
 fn grant(slots: &mut [u32], log: &mut [u32], s: State, u: Update) -> PressResult
-    requires { (u.many ≤ 6) × (u.first + u.many ≤ frame_size s) × (frame_size s ≤ length slots.old) }
+    requires { Fits u s slots.old }
     ensures { pressed result slots.new log.new ≡ granted_by s slots.old log.old 0 u (log_check s.count (length log.old)) }
 {
     if entries(log) <= s.count {

@@ -29,8 +29,7 @@ fn write_answer(answers: &mut [u32], at: usize, a: Pressed)
     ensures { answers.new ≡ paste answers.old at (answer_words a) 3 }
 {
     let answer = pressed_answer(a);
-    let words = [answer.number, answer.low, answer.high];
-    write_words(answers, at, &words, 3);
+    write_words(answers, at, &[answer.number, answer.low, answer.high]);
 }
 
 // Makes all presses, each on the state that the last one gave.
@@ -46,8 +45,8 @@ fn make_presses(
     ensures { left (Ok result) s slots.new log.new answers.new ≡ replayed answers.old (length bytes.now) (walk_of (core_machine (lent method.now)) (presses_of_bytes bytes.now) s slots.old log.old) }
 {
     let mut t = s;
-    for i in 0..bytes.len() {
-        let p = press(method, slots, log, t, bytes[i]);
+    for (i, byte) in bytes.iter().enumerate() {
+        let p = press(method, slots, log, t, *byte);
         write_answer(answers, 3 * i, p.answer);
         t = p.state;
     }

@@ -2,7 +2,8 @@
 ghost use Rattle.std.specs.Prelude.{◌≡◌, ◌+◌, ◌-◌, ◌/◌, ◌^◌, ◌≤◌, ◌<◌, length, get_or};
 ghost use Rattle.std.proofs.Math.Seq.{paste};
 ghost use Rattle.rules.specs.Check.{is_passed};
-ghost use Rattle.rules.specs.History.{entry_at, old_words, undo_record, entry_check, restored};
+ghost use Rattle.rules.specs.History.{entry_at, undo_record, entry_check, restored};
+ghost use Rattle.frame.specs.Fits.{Fits};
 ghost use Rattle.history.specs.Left.{entry_of, taken_back};
 
 use frame::write_words;
@@ -27,38 +28,18 @@ fn entry_at(n: u64) -> usize
     ENTRY * n as usize
 }
 
-// One of the six old words of an undo record: the word of a place that is written, and 0 past those.
-fn old_word(slots: &[u32], first: usize, many: u32, i: usize) -> u32
-    requires { first + many ≤ length slots.now }
-    ensures { result ≡ get_or (old_words slots.now first many) i 0 }
-{
-    if i < many as usize {
-        slots[first + i]
-    } else {
-        0
-    }
-}
-
-// Writes the undo record of a step that is to be taken, with the old words of the places that it writes.
+// Writes the undo record of a step that is to be taken, with the old words of the places that it writes; six words, 0 past those.
 pub(crate) fn write_entry(slots: &[u32], log: &mut [u32], s: State, u: Update)
-    requires { (u.many ≤ 6) × (u.first + u.many ≤ length slots.now) × (entry_at s.count + 10 ≤ length log.old) }
+    requires { Fits u s slots.now × (entry_at s.count + 10 ≤ length log.old) }
     ensures { log.new ≡ paste log.old (entry_at s.count) (undo_record s.pc s.depth u.first u.many slots.now) 10 }
 {
     let first = u.first as usize;
-    let entry = [
-        s.pc,
-        s.depth,
-        u.first,
-        u.many,
-        old_word(slots, first, u.many, 0),
-        old_word(slots, first, u.many, 1),
-        old_word(slots, first, u.many, 2),
-        old_word(slots, first, u.many, 3),
-        old_word(slots, first, u.many, 4),
-        old_word(slots, first, u.many, 5),
-    ];
+    let many = u.many as usize;
+    let mut old = [0; 6];
+    old[..many].copy_from_slice(&slots[first..first + many]);
     let at = entry_at(s.count);
-    write_words(log, at, &entry, ENTRY);
+    write_words(log, at, &[s.pc, s.depth, u.first, u.many]);
+    write_words(log, at + 4, &old);
 }
 
 // An entry but for its old words.
@@ -90,19 +71,12 @@ pub(crate) fn is_sound(code: &[u8], log: &[u32], s: State, n: u64) -> bool
     ensures { result ≡ is_passed (entry_check code.now s log.now (entry_at n)) }
 {
     let entry = read_entry(log, n);
-    if code.len() <= entry.pc as usize {
+    if code.len() <= entry.pc as usize || entry.depth > u32::from(s.max_stack) || entry.many > 6 {
         return false;
     }
-    if entry.depth > s.max_stack as u32 {
-        return false;
-    }
-    if entry.many > 6 {
-        return false;
-    }
-    if entry.many == 0 {
-        return true;
-    }
-    entry.first as u64 + entry.many as u64 <= s.max_locals as u64 + s.max_stack as u64
+    entry.many == 0
+        || u64::from(entry.first) + u64::from(entry.many)
+            <= u64::from(s.max_locals) + u64::from(s.max_stack)
 }
 
 // Takes the last step back by its entry: the old words, the offset and the depth. Where it has no places its first place is not looked at.
@@ -120,6 +94,6 @@ pub(crate) fn restore(slots: &mut [u32], log: &[u32], s: State) -> State
     }
     let first = entry.first as usize;
     let old = entry_at(count) + 4;
-    write_words(slots, first, &log[old..], many);
+    write_words(slots, first, &log[old..old + many]);
     moved(s, entry.pc, entry.depth, count)
 }

@@ -43,7 +43,7 @@ fn write_value(answer: &mut [u32], v: Value)
 {
     let value = value_answer(v);
     let words = [value.low, value.high];
-    write_words(answer, 0, &words, 2);
+    write_words(answer, 0, &words);
 }
 
 // Writes the value of a return.
@@ -86,5 +86,5 @@ pub(crate) fn write_steps(answer: &mut [u32], low: u32, high: u32, steps: u64)
     ensures { answer.new ≡ with_steps answer.old low high steps }
 {
     let words = [low, high, low_word(steps), high_word(steps)];
-    write_words(answer, 0, &words, 4);
+    write_words(answer, 0, &words);
 }

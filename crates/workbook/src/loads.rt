@@ -34,7 +34,7 @@ fn write_parts(answer: &mut [u32], loaded: Loaded)
         loaded.handlers as u32,
         loaded.handlers_length as u32,
     ];
-    write_words(answer, 0, &words, ANSWER_WORDS);
+    write_words(answer, 0, &words);
 }
 
 // Loads a sheet that was read.

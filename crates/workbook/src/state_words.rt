@@ -63,5 +63,5 @@ pub(crate) fn write_state(state: &mut [u32], s: State)
         high_word(s.count),
         s.return_type,
     ];
-    write_words(state, 0, &words, STATE_WORDS);
+    write_words(state, 0, &words);
 }

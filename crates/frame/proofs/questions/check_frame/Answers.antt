@@ -1,58 +1,57 @@
--- `check_frame` meets its contract: a law of the questions a return. Assumes nothing.
-use mathlib.Core.Path.{sym, ap}
+-- `check_frame` meets its contract: a law of the questions for each way to a refusal. Assumes nothing.
+use Prim.Native.Nat.{◌≤◌, ◌<◌}
+use mathlib.Core.Path.{sym}
+use native.Mathlib.Omega.{arith}
+use lib.ListN.{length}
+use Rattle.std.proofs.lemmas.Bool.Decides.{nat_tests}
+use Rattle.rules.specs.Questions.{frame_size}
 use Rattle.rules.proofs.Questions.{unpaired, long_pool, no_room, no_code, long_code, outside, too_deep, frame_passed}
 use Rattle.frame.proofs.questions.check_frame.Goals as goal
+use Rattle.frame.proofs.questions.check_frame.Goals.{then-is_empty-via-then-is_empty, then-is_empty-via-else-is_empty+then-code-gt-MAX_CODE, then-is_empty-via-else-is_empty+else-code-gt-MAX_CODE+then-code-s}
+use Rattle.frame.proofs.questions.check_frame.Goals.{then-kinds-method-via-then-kinds-method, then-kinds-method-via-else-kinds-method+then-kinds-gt-MAX_POOL, then-kinds-method-via-else-kinds-method+else-kinds-gt-MAX_POOL+then-slots-from}
 
 pub returns-then-kinds-method : goal.returns-then-kinds-method
-returns-then-kinds-method c = λ _. sym (unpaired _ _ _ c.if-kinds-method.true)
+returns-then-kinds-method c = λ _.
+    let a = c.args in
+    elim c.then-kinds-method.branch [
+      | then-kinds-method-via-then-kinds-method w ↦ sym (unpaired _ _ _ w.if-kinds-method.true)
+      | then-kinds-method-via-else-kinds-method+then-kinds-gt-MAX_POOL w ↦ sym (long_pool _ _ _ w.if-kinds-method.false w.if-kinds-gt-MAX_POOL.true)
+      | then-kinds-method-via-else-kinds-method+else-kinds-gt-MAX_POOL+then-slots-from w ↦ let short : length a.slots.now < frame_size a.s = omega arith in
+          sym (no_room _ _ _ w.if-kinds-method.false w.if-kinds-gt-MAX_POOL.false short)
+    ]
 
-pub returns-then-kinds-gt-MAX_POOL : goal.returns-then-kinds-gt-MAX_POOL
-returns-then-kinds-gt-MAX_POOL c = λ _. sym (long_pool _ _ _ c.if-kinds-method.false c.if-kinds-gt-MAX_POOL.true)
+pub returns-then-is_empty : goal.returns-then-is_empty
+returns-then-is_empty c = λ _.
+    let a = c.args in
+    let code = a.method.now.code.now in
+    let room : frame_size a.s ≤ length a.slots.now = omega arith in
+    elim c.then-is_empty.branch [
+      | then-is_empty-via-then-is_empty w ↦ let none : length code < 1 = grind (arith, nat_tests) in
+          sym (no_code _ _ _ c.if-kinds-method.false c.if-kinds-gt-MAX_POOL.false room none)
+      | then-is_empty-via-else-is_empty+then-code-gt-MAX_CODE w ↦ let some : 1 ≤ length code = grind (arith, nat_tests) in
+          sym (long_code _ _ _ c.if-kinds-method.false c.if-kinds-gt-MAX_POOL.false room some w.if-code-gt-MAX_CODE.true)
+      | then-is_empty-via-else-is_empty+else-code-gt-MAX_CODE+then-code-s w ↦ let some : 1 ≤ length code = grind (arith, nat_tests) in
+          sym (outside _ _ _ c.if-kinds-method.false c.if-kinds-gt-MAX_POOL.false room some w.if-code-gt-MAX_CODE.false w.if-code-s.true)
+    ]
 
-pub returns-then-slots-s : goal.returns-then-slots-s
-returns-then-slots-s c = λ _.
-    let two = c.before.before.before in
-    sym (no_room _ _ _ two.if-kinds-method.false two.if-kinds-gt-MAX_POOL.false c.if-slots-s.true)
-
-pub returns-then-code-lt1 : goal.returns-then-code-lt1
-returns-then-code-lt1 c = λ _.
-    let three = c.before in
-    let two = three.before.before.before in
-    sym (no_code _ _ _ two.if-kinds-method.false two.if-kinds-gt-MAX_POOL.false three.if-slots-s.false c.if-code-lt1.true)
-
-pub returns-then-code-gt-MAX_CODE : goal.returns-then-code-gt-MAX_CODE
-returns-then-code-gt-MAX_CODE c = λ _.
-    let three = c.before.before in
-    let two = three.before.before.before in
-    sym (long_code _ _ _ two.if-kinds-method.false two.if-kinds-gt-MAX_POOL.false three.if-slots-s.false c.if-code-lt1.false c.if-code-gt-MAX_CODE.true)
-
-pub returns-then-code-s : goal.returns-then-code-s
-returns-then-code-s c = λ _.
-    let five = c.before.before in
-    let three = five.before.before in
-    let two = three.before.before.before in
-    sym (outside _ _ _ two.if-kinds-method.false two.if-kinds-gt-MAX_POOL.false three.if-slots-s.false five.if-code-lt1.false five.if-code-gt-MAX_CODE.false c.if-code-s.true)
-
-pub returns-then-s : goal.returns-then-s
-returns-then-s c = λ _.
-    let six = c.before.before.before in
-    let five = six.before.before in
-    let three = five.before.before in
-    let two = three.before.before.before in
-    sym (too_deep _ _ _ two.if-kinds-method.false two.if-kinds-gt-MAX_POOL.false three.if-slots-s.false five.if-code-lt1.false five.if-code-gt-MAX_CODE.false six.if-code-s.false c.if-s.true)
+pub returns-then-s-from : goal.returns-then-s-from
+returns-then-s-from c = λ _.
+    let a = c.args in
+    let room : frame_size a.s ≤ length a.slots.now = omega arith in
+    let some_code : 1 ≤ length a.method.now.code.now = grind (arith, nat_tests) in
+    let deep : a.s.max_stack < a.s.depth = omega arith in
+    sym (too_deep _ _ _ c.if-kinds-method.false c.if-kinds-gt-MAX_POOL.false room some_code c.if-code-gt-MAX_CODE.false c.if-code-s.false deep)
 
 pub returns : goal.returns
 returns c = λ _.
-    let six = c.before.before.before in
-    let five = six.before.before in
-    let three = five.before.before in
-    let two = three.before.before.before in
+    let a = c.args in
+    let some_code : 1 ≤ length a.method.now.code.now = grind (arith, nat_tests) in
     sym (frame_passed _ _ _ record {
-      paired = two.if-kinds-method.false;
-      pool = two.if-kinds-gt-MAX_POOL.false;
-      room = three.if-slots-s.false;
-      some_code = five.if-code-lt1.false;
-      short_code = five.if-code-gt-MAX_CODE.false;
-      in_code = six.if-code-s.false;
-      deep = c.if-s.false;
+      paired = c.if-kinds-method.false;
+      pool = c.if-kinds-gt-MAX_POOL.false;
+      room = omega arith;
+      some_code = some_code;
+      short_code = c.if-code-gt-MAX_CODE.false;
+      in_code = c.if-code-s.false;
+      deep = omega arith;
     })

@@ -4,4 +4,4 @@ use Rattle.frame.proofs.words.write_words.Goals as goal
 
 pub returns : goal.returns
 returns c = let a = c.args in
-    rw c.copy_from_slice.ensures.after (copied a.target.now a.words.now a.at a.n)
+    rw c.copy_from_slice.ensures.after (copied a.target.now a.words.now a.at)

@@ -1,6 +1,5 @@
 -- `halt_answer` meets its contract. Assumes nothing.
 use Rattle.history.proofs.answer_words.halt_answer.Goals as goal
-use Rattle.rules.specs.declared.halts.Halt.TheVariants.{Return, Throw, Refused}
 
 pub returns-in-Return : goal.returns-in-Return
 returns-in-Return c = simp (c.in-Return.is, ← c.value_answer.ensures)

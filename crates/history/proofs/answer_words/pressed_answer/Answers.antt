@@ -1,6 +1,5 @@
 -- `pressed_answer` meets its contract. Assumes nothing.
 use Rattle.history.proofs.answer_words.pressed_answer.Goals as goal
-use Rattle.std.specs.Prelude.{Ok, Err}
 
 pub returns-in-Ok : goal.returns-in-Ok
 returns-in-Ok c = simp (c.in-Ok.is, ← c.number_answer.ensures)

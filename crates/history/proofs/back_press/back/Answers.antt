@@ -4,7 +4,6 @@ use mathlib.Core.Path.{sym, ◌∙◌}
 use mathlib.Core.List.{[]}
 use Rattle.rules.proofs.History.{back_by_lem, back_passed}
 use Rattle.history.proofs.back_press.back.Goals as goal
-use Rattle.std.specs.Prelude.{Err, Ok}
 
 pub restore-state-requires : goal.restore-state-requires
 restore-state-requires c = let a = c.args in

@@ -5,7 +5,6 @@ use Rattle.return_types.specs.Settled.{settled}
 use Rattle.interpreter.proofs.Steps.{settled_other, settled_there, legal_there}
 use Rattle.history.proofs.Forwards.{forward_there, forward_other}
 use Rattle.history.proofs.forward_press.forward.Goals as goal
-use Rattle.std.specs.Prelude.{Ok, Err}
 
 pub returns-in-Err : goal.returns-in-Err
 returns-in-Err c = let a = c.args in
