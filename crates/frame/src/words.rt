@@ -13,20 +13,28 @@ pub fn write_words(target: &mut [u32], at: usize, words: &[u32])
     target[at..at + words.len()].copy_from_slice(words);
 }
 
-// The words that an update has, written from an index on: one by one where there are few, as after most instructions, for the speed of a step.
+// The words that an update has, written from an index on, where they are not one.
+fn write_several(target: &mut [u32], at: usize, u: Update)
+    requires { (u.many ≤ 6) × (at + u.many ≤ length target.old) }
+    ensures { target.new ≡ paste target.old at (update_words u) u.many }
+{
+    if u.many == 2 {
+        target[at] = u.w0;
+        target[at + 1] = u.w1;
+        return;
+    }
+    let words = [u.w0, u.w1, u.w2, u.w3, u.w4, u.w5];
+    write_words(target, at, &words[..u.many as usize]);
+}
+
+// The words that an update has, written from an index on. Most updates have one, and few more than two: by the slice alone a step is slower.
 pub(crate) fn write_update(target: &mut [u32], at: usize, u: Update)
     requires { (u.many ≤ 6) × (at + u.many ≤ length target.old) }
     ensures { target.new ≡ paste target.old at (update_words u) u.many }
 {
-    match u.many {
-        1 => target[at] = u.w0,
-        2 => {
-            target[at] = u.w0;
-            target[at + 1] = u.w1;
-        }
-        many => {
-            let words = [u.w0, u.w1, u.w2, u.w3, u.w4, u.w5];
-            write_words(target, at, &words[..many as usize]);
-        }
+    if u.many == 1 {
+        target[at] = u.w0;
+        return;
     }
+    write_several(target, at, u);
 }
