@@ -1,13 +1,13 @@
 -- An entry of the log: its old words; and by what was read of it, whether it is sound, and what it gives back. Assumes nothing.
 use Prim.Native.Nat.{ℕ, ◌+◌, ◌-◌, ◌≤◌, ◌<◌}
-use mathlib.Core.Path.{◌≡◌, refl, sym, ap}
+use mathlib.Core.Path.{◌≡◌, refl, sym, ap, ◌∙◌}
 use mathlib.Core.Bool.{true, false}
 use mathlib.Core.List.{List, [], ◌∷◌, ◌++◌}
 use native.Mathlib.Omega.{arith}
 use lib.Dec.{leb}
 use lib.ListN.{length, get_or, take, drop, length-drop}
 use lib.Seq.{paste, paste-zero, length-paste, take_all}
-use Rattle.std.proofs.lemmas.List.Edits.{paste-paste}
+use borrow.Rule.Slice.PartMut.{put_mid}
 use borrow.Author.Tests.{lt-ltb, le-ltb, le-leb, lt-leb, ne_eqb}
 use Rattle.rules.specs.declared.states.State.{State}
 use Rattle.rules.specs.Check.{◌else◌, ◌>>◌, is_passed}
@@ -21,22 +21,17 @@ use Rattle.history.specs.Left.{entry_of, taken_back}
 pub rest : (l : List ℕ) (n : ℕ) → take (length l - n) (drop n l) ≡ drop n l
 rest l n = take_all (length l - n) (drop n l) (omega (arith, length-drop n l))
 
--- ---- the old words of an undo record
-
-module _ (slots : List ℕ) (first many : ℕ) (few : many ≤ 6) (fits : first + many ≤ length slots) where
-  -- six words, 0 but for the first many, which are copied
-  pub copied : (old : List ℕ) → old ≡ take (first + many - first) (drop first slots) → old ++ drop many zeros6 ≡ old_words slots first many
-  copied old h =
-      let count : first + many - first ≡ many = omega arith in
-      let from : 0 + many ≡ many = omega arith in
-      rw (h, count, from)
-
-  -- and written after the four words before them
-  pub recorded : (log : List ℕ) (at pc depth : ℕ) (old : List ℕ) → at ≤ length log → old ≡ old_words slots first many
-      → paste (paste log at (pc ∷ depth ∷ first ∷ many ∷ []) 4) (at + 4) old (length old) ≡ paste log at (undo_record pc depth first many slots) 10
-  recorded log at pc depth old h e =
-      let six : length (old_words slots first many) ≡ 6 = length-paste zeros6 0 (drop first slots) many (omega arith) (omega (arith, length-drop first slots)) in
-      rw (e, six) (paste-paste log at (pc ∷ depth ∷ first ∷ many ∷ []) (old_words slots first many) 4 6 refl (sym six) h)
+-- the old words of an undo record, copied into an entry over zeros, of which those past them are left
+pub recorded : (slots log : List ℕ) (at pc depth first many : ℕ) (old : List ℕ) → many ≤ 6 → first + many ≤ length slots → old ≡ take (first + many - first) (drop first slots)
+    → let entry = put_mid 4 (4 + many - 4) (pc ∷ depth ∷ first ∷ many ∷ zeros6) old in paste log at entry (length entry) ≡ paste log at (undo_record pc depth first many slots) 10
+recorded slots log at pc depth first many old few fits h =
+    let count : first + many - first ≡ many = omega arith in
+    let width : 4 + many - 4 ≡ many = omega arith in
+    let from : 0 + many ≡ many = omega arith in
+    let entry : put_mid 4 (4 + many - 4) (pc ∷ depth ∷ first ∷ many ∷ zeros6) old ≡ undo_record pc depth first many slots = rw (h, count, width, from) in
+    let six : length (old_words slots first many) ≡ 6 = length-paste zeros6 0 (drop first slots) many (omega arith) (omega (arith, length-drop first slots)) in
+    let ten : length (undo_record pc depth first many slots) ≡ 10 = omega arith in
+    ap (λ (x : List ℕ). paste log at x (length x)) entry ∙ ap (paste log at (undo_record pc depth first many slots)) ten
 
 module _ (log : List ℕ) (k : ℕ) (e : Entry) (is : e ≡ entry_of log k) where
   pc_read : e.pc ≡ get_or log k 0

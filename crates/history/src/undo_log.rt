@@ -35,11 +35,10 @@ pub(crate) fn write_entry(slots: &[u32], log: &mut [u32], s: State, u: Update)
 {
     let first = u.first as usize;
     let many = u.many as usize;
-    let mut old = [0; 6];
-    old[..many].copy_from_slice(&slots[first..first + many]);
+    let mut entry = [s.pc, s.depth, u.first, u.many, 0, 0, 0, 0, 0, 0];
+    entry[4..4 + many].copy_from_slice(&slots[first..first + many]);
     let at = entry_at(s.count);
-    write_words(log, at, &[s.pc, s.depth, u.first, u.many]);
-    write_words(log, at + 4, &old);
+    write_words(log, at, &entry);
 }
 
 // An entry but for its old words.
