@@ -1,18 +1,20 @@
 -- An entry of the log: its old words; and by what was read of it, whether it is sound, and what it gives back. Assumes nothing.
-use Prim.Native.Nat.{ℕ, ◌+◌, ◌-◌, ◌≤◌, ◌<◌}
-use mathlib.Core.Path.{◌≡◌, refl, sym, ap, ◌∙◌}
+use Prim.Native.Nat.{ℕ, zero, suc, ◌+◌, ◌-◌, ◌*◌, ◌/◌, ◌≤◌, ◌<◌}
+use mathlib.Core.Path.{◌≡◌, ap, ◌∙◌}
 use mathlib.Core.Bool.{true, false}
-use mathlib.Core.List.{List, [], ◌∷◌, ◌++◌}
+use mathlib.Core.List.{List, [], ◌∷◌}
 use native.Mathlib.Omega.{arith}
-use lib.Dec.{leb}
+use lib.Dec.{leb, lit<}
 use lib.ListN.{length, get_or, take, drop, length-drop}
-use lib.Seq.{paste, paste-zero, length-paste, take_all}
+use lib.Seq.{paste, paste-zero, length-paste, take_all, get_or-take, get_or-drop}
 use borrow.Rule.Slice.PartMut.{put_mid}
+use Rattle.std.specs.Simd.{first_chunks}
+use Rattle.std.proofs.lemmas.List.{drop-drop}
 use borrow.Author.Tests.{lt-ltb, le-ltb, le-leb, lt-leb, ne_eqb}
 use Rattle.rules.specs.declared.states.State.{State}
 use Rattle.rules.specs.Check.{◌else◌, ◌>>◌, is_passed}
 use Rattle.rules.specs.Step.{moved}
-use Rattle.rules.specs.History.{zeros6, old_words, undo_record, entry_check, restored}
+use Rattle.rules.specs.History.{entry_at, zeros6, old_words, undo_record, entry_check, restored}
 use Rattle.rules.proofs.Check.{last_asked}
 use Rattle.history.specs.declared.undo_log.Entry.{Entry}
 use Rattle.history.specs.Left.{entry_of, taken_back}
@@ -20,6 +22,21 @@ use Rattle.history.specs.Left.{entry_of, taken_back}
 -- the rest of a list from an index on, as it is lent
 pub rest : (l : List ℕ) (n : ℕ) → take (length l - n) (drop n l) ≡ drop n l
 rest l n = take_all (length l - n) (drop n l) (omega (arith, length-drop n l))
+
+-- a chunk by its index
+pub chunk_at : (m c k : ℕ) (xs d : List ℕ) → k < c → get_or (first_chunks m c xs) k d ≡ take m (drop (m * k) xs)
+chunk_at m zero k xs d h = absurd (omega arith)
+chunk_at m (suc c) zero xs d h = let start : m * 0 ≡ 0 = omega arith in rw start
+chunk_at m (suc c) (suc k) xs d h =
+    let next : m + m * k ≡ m * suc k = omega arith in
+    chunk_at m c k (drop m xs) d (omega arith) ∙ ap (take m) (drop-drop (m * k) m xs ∙ ap (λ (i : ℕ). drop i xs) next)
+
+pub entry_read : (log : List ℕ) (n : ℕ) (entries : List (List ℕ)) → entries ≡ first_chunks 10 (length log / 10) log → entry_at n + 10 ≤ length log
+    → let words = get_or entries n [] in record { pc = get_or words 0 0; depth = get_or words 1 0; first = get_or words 2 0; many = get_or words 3 0 } ≡ entry_of log (entry_at n)
+entry_read log n entries e h =
+    let word : (i : ℕ) → i < 10 → get_or (take 10 (drop (10 * n) log)) i 0 ≡ get_or log (10 * n + i) 0 = λ i below. get_or-take 10 (drop (10 * n) log) i 0 below ∙ get_or-drop (10 * n) log i 0 in
+    let start : 10 * n + 0 ≡ 10 * n = omega arith in
+    rw (e, chunk_at 10 (length log / 10) n log [] (omega arith)) (rw (word 0 (lit< tt), word 1 (lit< tt), word 2 (lit< tt), word 3 (lit< tt), start))
 
 -- the old words of an undo record, copied into an entry over zeros, of which those past them are left
 pub recorded : (slots log : List ℕ) (at pc depth first many : ℕ) (old : List ℕ) → many ≤ 6 → first + many ≤ length slots → old ≡ take (first + many - first) (drop first slots)

@@ -55,12 +55,13 @@ fn read_entry(log: &[u32], n: u64) -> Entry
     requires { entry_at n + 10 ≤ length log.now }
     ensures { result ≡ entry_of log.now (entry_at n) }
 {
-    let at = entry_at(n);
+    let (entries, _) = log.as_chunks::<ENTRY>();
+    let [pc, depth, first, many, ..] = entries[n as usize];
     Entry {
-        pc: log[at],
-        depth: log[at + 1],
-        first: log[at + 2],
-        many: log[at + 3],
+        pc,
+        depth,
+        first,
+        many,
     }
 }
 
@@ -87,12 +88,10 @@ pub(crate) fn restore(slots: &mut [u32], log: &[u32], s: State) -> State
 {
     let count = s.count - 1;
     let entry = read_entry(log, count);
-    let many = entry.many as usize;
-    if many == 0 {
-        return moved(s, entry.pc, entry.depth, count);
+    if entry.many > 0 {
+        let first = entry.first as usize;
+        let old = entry_at(count) + 4;
+        write_words(slots, first, &log[old..old + entry.many as usize]);
     }
-    let first = entry.first as usize;
-    let old = entry_at(count) + 4;
-    write_words(slots, first, &log[old..old + many]);
     moved(s, entry.pc, entry.depth, count)
 }

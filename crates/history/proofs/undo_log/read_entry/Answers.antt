@@ -1,5 +1,6 @@
 -- `read_entry` meets its contract. Assumes nothing.
+use Rattle.history.proofs.Entries.{entry_read}
 use Rattle.history.proofs.undo_log.read_entry.Goals as goal
 
 pub returns : goal.returns
-returns c = rw c.entry_at-at.ensures
+returns c = entry_read c.args.log.now c.args.n _ c.as_chunks.ensures.front c.requires
