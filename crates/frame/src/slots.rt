@@ -1,7 +1,7 @@
 // The slots of a frame: the locals, and after them the operand stack.
 ghost use Rattle.std.specs.Prelude.{◌≡◌};
 ghost use Rattle.rules.specs.Step.{written};
-ghost use Rattle.frame.specs.Fits.{Fits};
+ghost use Rattle.frame.specs.Writable.{Writable};
 
 use crate::words::write_update;
 use rules::{State, Update};
@@ -9,15 +9,15 @@ use rules::{State, Update};
 // Writes an ordinary step's words: into the locals, or else into the stack. The stack is lent on as a part (a rule of the project), so that what writes on it can
 // reach no local, nor a slot past the frame.
 pub fn commit(slots: &mut [u32], s: State, u: Update)
-    requires { Fits u s slots.old }
+    requires { Writable u s slots.old }
     ensures { slots.new ≡ written u slots.old }
 {
-    let locals = s.max_locals as usize;
+    let locals = usize::from(s.max_locals);
     let first = u.first as usize;
     if first < locals {
         write_update(slots, first, u);
         return;
     }
-    let end = locals + s.max_stack as usize;
+    let end = locals + usize::from(s.max_stack);
     write_update(&mut slots[locals..end], first - locals, u);
 }

@@ -2,7 +2,7 @@
 ghost use Rattle.std.specs.Prelude.{◌≡◌, length};
 ghost use Rattle.rules.specs.Lent.{lent};
 ghost use Rattle.rules.specs.Step.{core_machine};
-ghost use Rattle.frame.specs.Fits.{Fits};
+ghost use Rattle.frame.specs.Writable.{Writable};
 ghost use Rattle.rules.specs.History.{log_check, granted_by, pressed_by, forward_of};
 ghost use Rattle.history.specs.Left.{pressed};
 
@@ -21,7 +21,7 @@ pub struct PressResult {
 
 // Question 11; then the undo record is written, and the step committed.
 fn grant(slots: &mut [u32], log: &mut [u32], s: State, u: Update) -> PressResult
-    requires { Fits u s slots.old }
+    requires { Writable u s slots.old }
     ensures { pressed result slots.new log.new ≡ granted_by s slots.old log.old 0 u (log_check s.count (length log.old)) }
 {
     if entries(log) <= s.count {

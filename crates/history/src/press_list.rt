@@ -45,6 +45,7 @@ fn make_presses(
     ensures { left (Ok result) s slots.new log.new answers.new ≡ replayed answers.old (length bytes.now) (walk_of (core_machine (lent method.now)) (presses_of_bytes bytes.now) s slots.old log.old) }
 {
     let mut t = s;
+    // no `as_chunks_mut`: of the words that are written through its parts the toolchain's contracts say nothing
     for (i, byte) in bytes.iter().enumerate() {
         let p = press(method, slots, log, t, *byte);
         write_answer(answers, 3 * i, p.answer);

@@ -3,7 +3,7 @@ ghost use Rattle.std.specs.Prelude.{◌≡◌, ◌+◌, ◌-◌, ◌/◌, ◌^�
 ghost use Rattle.std.proofs.Math.Seq.{paste};
 ghost use Rattle.rules.specs.Check.{is_passed};
 ghost use Rattle.rules.specs.History.{entry_at, undo_record, entry_check, restored};
-ghost use Rattle.frame.specs.Fits.{Fits};
+ghost use Rattle.frame.specs.Writable.{Writable};
 ghost use Rattle.history.specs.Left.{entry_of, taken_back};
 
 use frame::write_words;
@@ -30,7 +30,7 @@ fn entry_at(n: u64) -> usize
 
 // Writes the undo record of a step that is to be taken, with the old words of the places that it writes; six words, 0 past those.
 pub(crate) fn write_entry(slots: &[u32], log: &mut [u32], s: State, u: Update)
-    requires { Fits u s slots.now × (entry_at s.count + 10 ≤ length log.old) }
+    requires { Writable u s slots.now × (entry_at s.count + 10 ≤ length log.old) }
     ensures { log.new ≡ paste log.old (entry_at s.count) (undo_record s.pc s.depth u.first u.many slots.now) 10 }
 {
     let first = u.first as usize;

@@ -9,8 +9,8 @@ use Rattle.frame.proofs.slots.commit.Goals as goal
 
 pub returns : goal.returns
 returns c = let a = c.args in
-    let l = a.s.max_locals in
+    let l = c.from-locals.result in
     let place : l + (a.u.first - l) ≡ a.u.first = omega arith in
     rw c.write_update-2.ensures
-    (paste_part a.slots.now l (l + a.s.max_stack) (a.u.first - l) a.u.many (update_words a.u) (omega arith) (omega arith)
+    (paste_part a.slots.now l (l + c.from.result) (a.u.first - l) a.u.many (update_words a.u) (omega arith) (omega arith)
     ∙ ap (λ (at : ℕ). paste a.slots.now at (update_words a.u) a.u.many) place)
