@@ -7,7 +7,7 @@ use native.Mathlib.Omega.{arith}
 use mathlib.Core.Bool.{Bool, true, false, cond}
 use lib.Dec.{T, eqb, eqb→eq, leb}
 use lib.Pow.{pow_pos}
-use lib.Ieee.{Float, nan, inf, fin, Format, prec, emax, low, up, down, odd, round, hid, ones, top, to_bits, of_fields, of_bits, fits}
+use lib.Ieee.{Float, nan, inf, fin, Format, binary32, binary64, prec, emax, low, up, down, odd, round, hid, ones, top, to_bits, of_fields, of_bits, fits}
 use lib.Ieee.Fits.{two, down_pos, round-fits, inf-fits, nan-fits}
 use lib.Ieee.Bits.{to_bits-lt}
 use lib.Ieee.Exact.{HasValue, odd_sign}
@@ -73,7 +73,7 @@ fields_value f s (suc x) t h =
     differ : (a b : ℕ) → a < b → a ≡ b → ⊥
     differ a b h e = omega arith
 
-fields_top : (f : Format) (s : Bool) (x t : ℕ) → x ≡ ones f → of_fields f s x t ≡ cond (eqb t 0) (inf s) nan
+pub fields_top : (f : Format) (s : Bool) (x t : ℕ) → x ≡ ones f → of_fields f s x t ≡ cond (eqb t 0) (inf s) nan
 unfolding of_fields
 fields_top f s zero t e = absurd (no (emax f) e)
   where
@@ -85,7 +85,7 @@ fields_top f s (suc x) t e =
 pub fields_inf : (f : Format) (s : Bool) (x t : ℕ) → x ≡ ones f → t ≡ 0 → of_fields f s x t ≡ inf s
 fields_inf f s x t e z = fields_top f s x t e ∙ ap (λ (b : Bool). cond b (inf s) nan) (eq-eqb t 0 z)
 
-fields_nan : (f : Format) (s : Bool) (x t : ℕ) → x ≡ ones f → (t ≡ 0 → ⊥) → of_fields f s x t ≡ nan
+pub fields_nan : (f : Format) (s : Bool) (x t : ℕ) → x ≡ ones f → (t ≡ 0 → ⊥) → of_fields f s x t ≡ nan
 fields_nan f s x t e z = fields_top f s x t e ∙ ap (λ (b : Bool). cond b (inf s) nan) (ne_eqb t 0 z)
 
 pub bits_nan : (f : Format) (b : ℕ) → b % top f / hid f ≡ ones f → (b % hid f ≡ 0 → ⊥) → of_bits f b ≡ nan
@@ -122,13 +122,13 @@ nearest_value g (inf t) s a c C h = absurd h
 nearest_value g (fin t m e) s a c C h =
     ap (λ (b : Bool). round g b (m * up e) (down e)) h.0 ∙ round_same g s (m * up e) (down e) a c (down_pos e) C h.1
 
-nearest_fits : (g : Format) (v : Float) → T (fits g (nearest g v))
+pub nearest_fits : (g : Format) (v : Float) → T (fits g (nearest g v))
 unfolding nearest
 nearest_fits g nan = nan-fits g
 nearest_fits g (inf s) = inf-fits g s
 nearest_fits g (fin s m e) = round-fits g s (m * up e) (down e)
 
-nearest_of_inf : (g : Format) (s : Bool) → nearest g (inf s) ≡ inf s
+pub nearest_of_inf : (g : Format) (s : Bool) → nearest g (inf s) ≡ inf s
 unfolding nearest
 nearest_of_inf g s = refl
 
@@ -140,7 +140,7 @@ module _ (f g : Format) (x t : ℕ) where
   pub nearest_inf : (s : Bool) → x ≡ ones f → t ≡ 0 → nearest g (of_fields f s x t) ≡ inf s
   nearest_inf s e z = ap (nearest g) (fields_inf f s x t e z) ∙ nearest_of_inf g s
 
-  rounded : (s : Bool) → x < ones f → nearest g (of_fields f s x t) ≡ round g s (lead f x t * 2 ^ place x) (2 ^ low f)
+  pub rounded : (s : Bool) → x < ones f → nearest g (of_fields f s x t) ≡ round g s (lead f x t * 2 ^ place x) (2 ^ low f)
   rounded s l = nearest_value g (of_fields f s x t) s (lead f x t * 2 ^ place x) (2 ^ low f) (pow_pos (low f)) (fields_value f s x t l)
 
   -- m / 2 ^ j is what the format keeps, and k digits are dropped
@@ -167,3 +167,12 @@ module _ (f g : Format) (x t : ℕ) where
     nearest_negative_lt e =
         subst (λ (n : ℕ). n < 2 * top g) (nearest_negative ∙ ap (λ (n : ℕ). top g + n) (sym e))
         (to_bits-lt g (nearest g (of_fields f true x t)) (nearest_fits g (of_fields f true x t)))
+
+-- ---- the fields of a pattern up to an infinity's, and of one above it
+pub number_fields : (f : Format) (n : ℕ) → n % top f ≤ ones f * hid f → (n % top f / hid f ≤ ones f) × (n % top f / hid f ≡ ones f → n % hid f ≡ 0)
+number_fields binary32 n h = (omega arith, λ e. omega arith)
+number_fields binary64 n h = (omega arith, λ e. omega arith)
+
+pub nan_fields : (f : Format) (n : ℕ) → ones f * hid f < n % top f → of_bits f n ≡ nan
+nan_fields binary32 n h = bits_nan binary32 n (omega arith) (λ z. omega arith)
+nan_fields binary64 n h = bits_nan binary64 n (omega arith) (λ z. omega arith)

@@ -9,7 +9,7 @@ pub mod SignBit
 pub mod Fields
 -- Laws of the conversions
 pub mod Integers
-pub mod Narrowing
-pub mod Widening
+pub mod Nearest
+pub mod Exact
 pub mod WholePart
 pub mod Saturation

@@ -4,40 +4,39 @@ use Prim.Native.Nat.{ℕ, ◌+◌, ◌*◌, ◌/◌, ◌%◌, ◌^◌, ◌≤◌
 use native.Mathlib.Nat.{mod-eq_of_lt, div-eq_of_lt, le_trans}
 use native.Mathlib.Omega.{arith}
 use mathlib.Core.Bool.{not}
-use lib.Dec.{T, is_le, compare_is_eq, nleb→lt, eqb→eq}
+use lib.Dec.{T, is_le, compare_is_eq, leb→le, nleb→lt, eqb→eq}
 use lib.Pow.{shr_lt}
 use lib.Ieee as Ieee
 use lib.Ieee.Nearest.{closest}
 use lib.Ieee.Fits.{nearest-le}
 
--- ---- what a comparison says
-compare_lt : (a b : ℕ) → a < b → compare a b ≡ Ordering.lt
-compare_lt a b h = go (compare a b) (nleb→lt a b) (eqb→eq a b)
-  where
-    not_more : b < a → ⊥
-    not_more g = omega arith
-
-    not_equal : a ≡ b → ⊥
-    not_equal g = omega arith
-
-    go : (o : Ordering) → (T (not (is_le o)) → b < a) → (T (compare_is_eq o) → a ≡ b) → o ≡ Ordering.lt
-    go Ordering.lt k e = refl
-    go Ordering.eq k e = absurd (not_equal (e tt))
-    go Ordering.gt k e = absurd (not_more (k tt))
-
 -- ---- how large it is
 pub closest_le : (m p j : ℕ) → m < 2 ^ (p + j) → closest m (2 ^ j) ≤ 2 ^ p
 closest_le m p j h = le_trans (nearest-le (m / 2 ^ j) (compare (m % 2 ^ j * 2) (2 ^ j))) (shr_lt p j h)
 
--- less than a half
-pub closest_zero : (m u : ℕ) → 2 * m < u → closest m u ≡ 0
-closest_zero m u h =
-    let l : m < u = under m u h in
-    ap (Ieee.nearest (m / u)) (compare_lt (m % u * 2) u (subst (λ (r : ℕ). r * 2 < u) (sym (mod-eq_of_lt l)) (twice m u h)))
-    ∙ div-eq_of_lt l
-  where
-    under : (m u : ℕ) → 2 * m < u → m < u
-    under m u h = omega arith
+-- ---- of a fraction below one: a half goes to 0, the even number
+module _ (m u : ℕ) (l : m < u) where
+  by_half : closest m u ≡ Ieee.nearest 0 (compare (m * 2) u)
+  by_half = ap (λ (q : ℕ). Ieee.nearest q (compare (m % u * 2) u)) (div-eq_of_lt l) ∙ ap (λ (r : ℕ). Ieee.nearest 0 (compare (r * 2) u)) (mod-eq_of_lt l)
 
-    twice : (m u : ℕ) → 2 * m < u → m * 2 < u
-    twice m u h = omega arith
+  pub closest_one : u < 2 * m → closest m u ≡ 1
+  closest_one h = by_half ∙ go (compare (m * 2) u) (leb→le (m * 2) u) (eqb→eq (m * 2) u)
+    where
+      no : m * 2 ≤ u → ⊥
+      no g = omega arith
+
+      go : (o : Ordering) → (T (is_le o) → m * 2 ≤ u) → (T (compare_is_eq o) → m * 2 ≡ u) → Ieee.nearest 0 o ≡ 1
+      go Ordering.lt k e = absurd (no (k tt))
+      go Ordering.eq k e = absurd (no (k tt))
+      go Ordering.gt k e = refl
+
+  pub closest_zero : 2 * m ≤ u → closest m u ≡ 0
+  closest_zero h = by_half ∙ go (compare (m * 2) u) (nleb→lt (m * 2) u)
+    where
+      no : u < m * 2 → ⊥
+      no g = omega arith
+
+      go : (o : Ordering) → (T (not (is_le o)) → u < m * 2) → Ieee.nearest 0 o ≡ 0
+      go Ordering.lt k = refl
+      go Ordering.eq k = refl
+      go Ordering.gt k = absurd (no (k tt))

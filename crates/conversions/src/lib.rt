@@ -1,4 +1,4 @@
-// Conversions between ints, longs, floats and doubles as words (JVMS 2.8, 2.11.4): one from integers over the width and the format, one back, and the two between the formats.
+// Conversions between ints, longs, floats and doubles as words (JVMS 2.8, 2.11.4): one from integers over the width and the format, one back, and one between formats.
 #![tactic(auto)]
 
 mod float_to_float;
@@ -8,7 +8,7 @@ mod int_to_float;
 mod rounding;
 mod words;
 
-pub use float_to_float::{d2f, f2d};
+pub use float_to_float::of_float;
 pub use float_to_int::to_int;
 pub use format::Format;
 pub use int_to_float::of_int;

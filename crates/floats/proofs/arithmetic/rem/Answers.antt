@@ -2,7 +2,7 @@
 use Rattle.std.proofs.Common.{◌≡◌, ◌+◌, ◌-◌, ◌*◌, ◌<◌, ◌≤◌, ◌%◌, ◌⊎◌, ◌∙◌, inl, inr, arith}
 use lib.Ieee.{ones, hid, top, to_bits, of_bits, rem}
 use Rattle.conversions.proofs.RoundedBits.{to_bits_nan}
-use Rattle.conversions.proofs.Integers.{sum_fits}
+use Rattle.conversions.proofs.Nearest.{sum_fits}
 use Rattle.floats.proofs.IeeeRem.{rem_sum, rem_small, no_number, inf_divisor}
 use Rattle.floats.proofs.arithmetic.rem.Given as given
 use Rattle.floats.proofs.arithmetic.rem.Goals as goal
