@@ -6,32 +6,33 @@ ghost use Rattle.effects.specs.Families.{branch_opcodes};
 
 use crate::outcome::Effect;
 use instructions::opcodes::*;
-use integers::{acmpeq, acmpne, icmpeq, icmpge, icmpgt, icmple, icmplt, icmpne};
+use integers::{cmpeq, cmpne, icmple, icmplt};
 
 // IFEQ to GOTO, the switches, IFNULL and IFNONNULL; a jump and a switch always branch.
+#[tactic(auto, unfolding(crate::specs::Effects::effect_at, rules::specs::Instructions::row_of, values::specs::Integers::signed))]
 pub(crate) fn branch_effect(op: u8, a: u32, b: u32) -> Effect
     requires { is_in branch_opcodes op ≡ true }
     ensures { (constant c d : ℕ) → result ≡ effect_at op constant a b c d }
 {
     match op {
-        IFEQ => Effect::Branch(icmpeq(a, 0)),
-        IFNE => Effect::Branch(icmpne(a, 0)),
+        IFEQ => Effect::Branch(cmpeq(a, 0)),
+        IFNE => Effect::Branch(cmpne(a, 0)),
         IFLT => Effect::Branch(icmplt(a, 0)),
-        IFGE => Effect::Branch(icmpge(a, 0)),
-        IFGT => Effect::Branch(icmpgt(a, 0)),
+        IFGE => Effect::Branch(icmple(0, a)),
+        IFGT => Effect::Branch(icmplt(0, a)),
         IFLE => Effect::Branch(icmple(a, 0)),
-        IF_ICMPEQ => Effect::Branch(icmpeq(a, b)),
-        IF_ICMPNE => Effect::Branch(icmpne(a, b)),
+        IF_ICMPEQ => Effect::Branch(cmpeq(a, b)),
+        IF_ICMPNE => Effect::Branch(cmpne(a, b)),
         IF_ICMPLT => Effect::Branch(icmplt(a, b)),
-        IF_ICMPGE => Effect::Branch(icmpge(a, b)),
-        IF_ICMPGT => Effect::Branch(icmpgt(a, b)),
+        IF_ICMPGE => Effect::Branch(icmple(b, a)),
+        IF_ICMPGT => Effect::Branch(icmplt(b, a)),
         IF_ICMPLE => Effect::Branch(icmple(a, b)),
-        IF_ACMPEQ => Effect::Branch(acmpeq(a, b)),
-        IF_ACMPNE => Effect::Branch(acmpne(a, b)),
+        IF_ACMPEQ => Effect::Branch(cmpeq(a, b)),
+        IF_ACMPNE => Effect::Branch(cmpne(a, b)),
         GOTO => Effect::Branch(true), // and GOTO_W
         TABLESWITCH => Effect::Branch(true),
         LOOKUPSWITCH => Effect::Branch(true),
-        IFNULL => Effect::Branch(acmpeq(a, 0)),
-        _ => Effect::Branch(acmpne(a, 0)), // IFNONNULL
+        IFNULL => Effect::Branch(cmpeq(a, 0)),
+        _ => Effect::Branch(cmpne(a, 0)), // IFNONNULL
     }
 }

@@ -5,7 +5,7 @@ ghost use Rattle.effects.specs.Effects.{effect_at};
 ghost use Rattle.effects.specs.Families.{conversion_opcodes};
 
 use crate::outcome::{Effect, one, split};
-use conversions::{d2f, f2d, of_int, to_int};
+use conversions::{of_float, of_int, to_int};
 use instructions::opcodes::*;
 use integers::{i2b, i2c, i2l, i2s, join_words, l2i};
 
@@ -25,10 +25,10 @@ pub(crate) fn conversion_effect(op: u8, a: u32, b: u32) -> Effect
         L2D => split(of_int::<u64, f64>(x)),
         F2I => one(to_int::<f32, u32>(a)),
         F2L => split(to_int::<f32, u64>(a)),
-        F2D => split(f2d(a)),
+        F2D => split(of_float::<f32, f64>(a)),
         D2I => one(to_int::<f64, u32>(x)),
         D2L => split(to_int::<f64, u64>(x)),
-        D2F => one(d2f(x)),
+        D2F => one(of_float::<f64, f32>(x)),
         I2B => one(i2b(a)),
         I2C => one(i2c(a)),
         _ => one(i2s(a)), // I2S

@@ -14,7 +14,7 @@ pub record IsIeee {V : Type 0} (f : Format) (value : V → Float) (sum differenc
   pub equates : (x y : V) → equal x y ≡ eq (value x) (value y)
   pub orders : (x y : V) → order x y ≡ float_partial_cmp (value x) (value y)
 
--- those of f32 and f64, as the language states them
+-- those of f32 and f64, as the language states them; here, since an impl cites of its own crate only specs/
 pub machine_ieee : (f : Format) → IsIeee f (λ x. x) (λ x y z. z ≡ add f x y) (λ x y z. z ≡ sub f x y) (λ x y z. z ≡ mul f x y) (λ x y z. z ≡ div f x y) eq float_partial_cmp
 machine_ieee f = record {
   adds = λ x y z e. e;

@@ -2,7 +2,7 @@
 ghost use Rattle.std.specs.Prelude.{◌≡◌, ◌<◌, ◌/◌, ◌%◌, ◌^◌, ℕ, ◌+ℤ◌, ◌-ℤ◌, ◌*ℤ◌, neg_ℤ, pos, int_div, int_rem, nat_eq};
 ghost use Rattle.std.specs.Int.Signed.{shr_z};
 ghost use Rattle.values.specs.Kinds.{Kind, int};
-ghost use Rattle.values.specs.Integers.{low, bitwise, and, or, xor, ◌<ᶻ◌, ◌≤ᶻ◌};
+ghost use Rattle.values.specs.Integers.{low, bitwise, and, or, xor, ◌<ᶻ◌};
 ghost use Rattle.integers.specs.Widths.{width, count_bits, number, low_bits};
 
 // A two's complement number as a word: an int is a u32, a long a u64. The impls are written out, since no macro may write one here.
@@ -62,17 +62,9 @@ pub trait Integer: Copy {
     fn xor(self, other: Self) -> Self
         ensures { word result ≡ bitwise (width kind) xor (word self) (word other) };
 
-    // Whether a number is less than another: IF_ICMPLT, IFLT with 0 for the other, LCMP, and with the two exchanged IF_ICMPGT, IFGT.
+    // Whether a number is less than another, as the tests of two ints and LCMP ask.
     fn less(self, other: Self) -> bool
         ensures { result ≡ (number kind (word self) <ᶻ number kind (word other)) };
-
-    // Whether it is at most another: IF_ICMPLE, IFLE with 0 for the other, and with the two exchanged IF_ICMPGE, IFGE.
-    #[tactic(auto, using(crate::proofs::Comparison::le_is))]
-    final fn at_most(self, other: Self) -> bool
-        ensures { result ≡ (number kind (word self) ≤ᶻ number kind (word other)) }
-    {
-        !other.less(self)
-    }
 
     // Whether a division by it throws.
     fn is_zero(self) -> bool

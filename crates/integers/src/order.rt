@@ -1,9 +1,9 @@
-// Longs put in order, and words equal or not (JVMS 2.11.3, 2.11.7). The other tests of two ints are methods of Integer.
-#![tactic(auto, using(crate::proofs::Comparison::signed_eq), unfolding(crate::specs::Widths::number, crate::specs::Widths::low_bits, values::specs::Integers::low))]
+// Ints, longs and words compared (JVMS 2.11.3, 2.11.7).
+#![tactic(auto, using(crate::proofs::Comparison::signed_eq, crate::proofs::Comparison::le_is), unfolding(crate::specs::Widths::number, crate::specs::Widths::low_bits, values::specs::Integers::low))]
 
 ghost use Rattle.std.specs.Prelude.{◌≡◌, not, ◌==◌};
 ghost use Rattle.values.specs.Kinds.{int, long};
-ghost use Rattle.values.specs.Integers.{order, ◌=ᶻ◌};
+ghost use Rattle.values.specs.Integers.{order, ◌=ᶻ◌, ◌<ᶻ◌, ◌≤ᶻ◌};
 ghost use Rattle.values.specs.Words.{bits, meaning};
 
 use crate::integer::Integer;
@@ -35,4 +35,18 @@ pub fn cmpne(a: u32, b: u32) -> bool
     ensures word { result ≡ not (a == b) }
 {
     a != b
+}
+
+// IF_ICMPLT, and IFLT with 0 for b: a < b. With the two exchanged IF_ICMPGT, IFGT.
+pub fn icmplt(a: u32, b: u32) -> bool
+    ensures { result ≡ (meaning int a <ᶻ meaning int b) }
+{
+    a.less(b)
+}
+
+// IF_ICMPLE, and IFLE with 0 for b: a ≤ b. With the two exchanged IF_ICMPGE, IFGE.
+pub fn icmple(a: u32, b: u32) -> bool
+    ensures { result ≡ (meaning int a ≤ᶻ meaning int b) }
+{
+    !b.less(a)
 }

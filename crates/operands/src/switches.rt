@@ -8,7 +8,7 @@ ghost use Rattle.rules.specs.Fetch.{aligned, table_check, pairs_from, rising, lo
 ghost use Rattle.operands.specs.Switch.{switch_of, table_offset, lookup_offset, key_index};
 
 use crate::bytes::read_code_u32;
-use integers::{icmpeq, icmple, icmplt};
+use integers::{cmpeq, icmple, icmplt};
 use rules::Refusal;
 
 // A switch: its length in bytes and its default offset.
@@ -122,7 +122,7 @@ fn key_index(code: &[u8], at: usize, n: usize, key: u32) -> usize
     ensures { result ≡ key_index (meaning int key) (pairs_from code.now at n) }
 {
     for i in 0..n {
-        if icmpeq(key, read_code_u32(code, at + 8 * i)) {
+        if cmpeq(key, read_code_u32(code, at + 8 * i)) {
             return i;
         }
     }

@@ -17,15 +17,15 @@ overflow_mul-i c = omega arith
 pub overflow_add-at : goal.overflow_add-at
 overflow_add-at c = omega arith
 
-pub returns-then-icmpeq : goal.returns-then-icmpeq
-returns-then-icmpeq c = let turn = c.before.before.before.before in
+pub returns-then-cmpeq : goal.returns-then-cmpeq
+returns-then-cmpeq c = let turn = c.before.before.before.before in
     let a = turn.args in
-    omega (arith, index_here a.code.now (signed 31 a.key) a.at a.n turn.loop-i.i (omega arith) (sym (let turn = c in let a = turn.args in c.icmpeq.ensures ∙ ap (λ (x : ℤ). signed 31 a.key =ᶻ x) (word_means a.code.now (a.at + 8 * turn.loop-i.i) c.read_code_u32.result c.read_code_u32.ensures)) ∙ c.if-icmpeq.true))
+    omega (arith, index_here a.code.now (signed 31 a.key) a.at a.n turn.loop-i.i (omega arith) (sym (let turn = c in let a = turn.args in c.cmpeq.ensures.number ∙ ap (λ (x : ℤ). signed 31 a.key =ᶻ x) (word_means a.code.now (a.at + 8 * turn.loop-i.i) c.read_code_u32.result c.read_code_u32.ensures)) ∙ c.if-cmpeq.true))
 
 pub loop-i-preserved : goal.loop-i-preserved
 loop-i-preserved c = let turn = c.before.before.before.before in
     let a = turn.args in
-    (omega arith, omega (arith, index_next a.code.now (signed 31 a.key) a.at a.n turn.loop-i.i (omega arith) (sym (let turn = c in let a = turn.args in c.icmpeq.ensures ∙ ap (λ (x : ℤ). signed 31 a.key =ᶻ x) (word_means a.code.now (a.at + 8 * turn.loop-i.i) c.read_code_u32.result c.read_code_u32.ensures)) ∙ c.if-icmpeq.false)))
+    (omega arith, omega (arith, index_next a.code.now (signed 31 a.key) a.at a.n turn.loop-i.i (omega arith) (sym (let turn = c in let a = turn.args in c.cmpeq.ensures.number ∙ ap (λ (x : ℤ). signed 31 a.key =ᶻ x) (word_means a.code.now (a.at + 8 * turn.loop-i.i) c.read_code_u32.result c.read_code_u32.ensures)) ∙ c.if-cmpeq.false)))
 
 pub returns : goal.returns
 returns c = let a = c.args in
