@@ -1,172 +1,146 @@
-// Whether a function takes its operands to the result of a vector. A function is known by its opcode in JVMS, IINC after WIDE by
-// that of WIDE. Each opcode is in one of the families below, and the other families answer false.
+// The result of a function for the operands of a vector. A function is known by its opcode in JVMS, IINC after WIDE by that of WIDE.
 
-use floats::Unordered;
-use integers::Integer;
+use conversions::{of_float, of_int, to_int};
+use floats::{Arithmetic, Unordered, compare};
+use integers::{Integer, cmpeq, cmpne, icmple, icmplt, lcmp};
 
-// The largest word.
-const WORD: u64 = 0xFFFF_FFFF;
-
-// A word as a vector has it.
-fn wide(x: u32) -> u64 {
-    x as u64
+// An operand that is a word; one that is wider has no result.
+fn word(x: u64) -> Option<u32> {
+    u32::try_from(x).ok()
 }
 
-// A truth as a vector has it.
-fn flag(x: bool) -> u64 {
-    if x { 1 } else { 0 }
-}
-
-// From two ints to an int, or from an int and a count.
-fn int_holds(op: u64, a: u32, b: u32, res: u64) -> bool {
+// The result of two ints or two longs, by the opcode of ints.
+fn integer<T: Integer>(op: u64, a: T, b: T) -> Option<T> {
     match op {
-        0x60 => wide(a.add(b)) == res,
-        0x64 => wide(a.sub(b)) == res,
-        0x68 => wide(a.mul(b)) == res,
-        0x6C => b != 0 && wide(a.div(b)) == res,
-        0x70 => b != 0 && wide(a.rem(b)) == res,
-        0x78 => wide(a.shl(b)) == res,
-        0x7A => wide(a.shr(b)) == res,
-        0x7C => wide(a.ushr(b)) == res,
-        0x7E => wide(a.and(b)) == res,
-        0x80 => wide(a.or(b)) == res,
-        0x82 => wide(a.xor(b)) == res,
-        _ => false,
+        0x60 => Some(a.add(b)),
+        0x64 => Some(a.sub(b)),
+        0x68 => Some(a.mul(b)),
+        0x6C if !b.is_zero() => Some(a.div(b)),
+        0x70 if !b.is_zero() => Some(a.rem(b)),
+        0x74 if b.is_zero() => Some(a.neg()),
+        0x7E => Some(a.and(b)),
+        0x80 => Some(a.or(b)),
+        0x82 => Some(a.xor(b)),
+        _ => None,
     }
 }
 
-// IINC, whose constant has 8 bits, or 16 after WIDE.
-fn increment_holds(op: u64, a: u32, constant: u32, res: u64) -> bool {
+// Of an int or a long and a count, by the opcode of ints.
+fn shifted<T: Integer>(op: u64, a: T, count: u32) -> Option<T> {
     match op {
-        0x84 => constant <= 0xFF && wide(a.add(integers::extended8(constant as u8))) == res,
-        0xC4 => constant <= 0xFFFF && wide(a.add(integers::extended16(constant as u16))) == res,
-        _ => false,
+        0x78 => Some(a.shl(count)),
+        0x7A => Some(a.shr(count)),
+        0x7C => Some(a.ushr(count)),
+        _ => None,
     }
 }
 
-// The tests of two ints by which a branch is taken.
-fn test_holds(op: u64, a: u32, b: u32, res: u64) -> bool {
+// Of two floats or two doubles, by the opcode of floats.
+fn float<F: Arithmetic>(op: u64, a: F::Word, b: F::Word) -> Option<F::Word> {
     match op {
-        0x9F => flag(integers::icmpeq(a, b)) == res,
-        0xA0 => flag(integers::icmpne(a, b)) == res,
-        0xA1 => flag(integers::icmplt(a, b)) == res,
-        0xA2 => flag(integers::icmpge(a, b)) == res,
-        0xA3 => flag(integers::icmpgt(a, b)) == res,
-        0xA4 => flag(integers::icmple(a, b)) == res,
-        _ => false,
+        0x62 => Some(floats::add::<F>(a, b)),
+        0x66 => Some(floats::sub::<F>(a, b)),
+        0x6A => Some(floats::mul::<F>(a, b)),
+        0x6E => Some(floats::div::<F>(a, b)),
+        0x72 => Some(floats::rem::<F>(a, b)),
+        0x76 if F::number(b) == 0 => Some(floats::neg::<F>(a)),
+        _ => None,
     }
 }
 
-// From two floats.
-fn float_holds(op: u64, a: u32, b: u32, res: u64) -> bool {
+// Of IINC, whose constant has 8 bits, or 16 after WIDE.
+fn increment(op: u64, a: u32, constant: u64) -> Option<u32> {
     match op {
-        0x62 => wide(floats::add::<f32>(a, b)) == res,
-        0x66 => wide(floats::sub::<f32>(a, b)) == res,
-        0x6A => wide(floats::mul::<f32>(a, b)) == res,
-        0x6E => wide(floats::div::<f32>(a, b)) == res,
-        0x72 => wide(floats::rem::<f32>(a, b)) == res,
-        0x95 => wide(floats::compare::<f32>(a, b, Unordered::Less)) == res,
-        0x96 => wide(floats::compare::<f32>(a, b, Unordered::Greater)) == res,
-        _ => false,
+        0x84 => Some(a.add(integers::extended8(u8::try_from(constant).ok()?))),
+        0xC4 => Some(a.add(integers::extended16(u16::try_from(constant).ok()?))),
+        _ => None,
     }
 }
 
-// From one int or one float.
-fn one_word_holds(op: u64, a: u32, res: u64) -> bool {
+// Of one int or one float that is converted.
+fn of_word(op: u64, a: u32) -> Option<u64> {
     match op {
-        0x74 => wide(a.neg()) == res,
-        0x76 => wide(floats::neg::<f32>(a)) == res,
-        0x85 => integers::i2l(a) == res,
-        0x86 => wide(conversions::of_int::<u32, f32>(a)) == res,
-        0x87 => conversions::of_int::<u32, f64>(a) == res,
-        0x8B => wide(conversions::to_int::<f32, u32>(a)) == res,
-        0x8C => conversions::to_int::<f32, u64>(a) == res,
-        0x8D => conversions::f2d(a) == res,
-        0x91 => wide(integers::i2b(a)) == res,
-        0x92 => wide(integers::i2c(a)) == res,
-        0x93 => wide(integers::i2s(a)) == res,
-        _ => false,
+        0x85 => Some(integers::i2l(a)),
+        0x86 => Some(u64::from(of_int::<u32, f32>(a))),
+        0x87 => Some(of_int::<u32, f64>(a)),
+        0x8B => Some(u64::from(to_int::<f32, u32>(a))),
+        0x8C => Some(to_int::<f32, u64>(a)),
+        0x8D => Some(of_float::<f32, f64>(a)),
+        0x91 => Some(u64::from(integers::i2b(a))),
+        0x92 => Some(u64::from(integers::i2c(a))),
+        0x93 => Some(u64::from(integers::i2s(a))),
+        _ => None,
     }
 }
 
-// From two longs.
-fn long_holds(op: u64, a: u64, b: u64, res: u64) -> bool {
+// Of one long or one double that is converted.
+fn of_two_words(op: u64, a: u64) -> Option<u64> {
     match op {
-        0x61 => a.add(b) == res,
-        0x65 => a.sub(b) == res,
-        0x69 => a.mul(b) == res,
-        0x6D => b != 0 && a.div(b) == res,
-        0x71 => b != 0 && a.rem(b) == res,
-        0x7F => a.and(b) == res,
-        0x81 => a.or(b) == res,
-        0x83 => a.xor(b) == res,
-        0x94 => wide(integers::lcmp(a, b)) == res,
-        _ => false,
+        0x88 => Some(u64::from(integers::l2i(a))),
+        0x89 => Some(u64::from(of_int::<u64, f32>(a))),
+        0x8A => Some(of_int::<u64, f64>(a)),
+        0x8E => Some(u64::from(to_int::<f64, u32>(a))),
+        0x8F => Some(to_int::<f64, u64>(a)),
+        0x90 => Some(u64::from(of_float::<f64, f32>(a))),
+        _ => None,
     }
 }
 
-// From a long and a count.
-fn shift_holds(op: u64, a: u64, count: u32, res: u64) -> bool {
+// Of two longs, floats or doubles that are compared.
+fn order(op: u64, a: u64, b: u64) -> Option<u32> {
     match op {
-        0x79 => a.shl(count) == res,
-        0x7B => a.shr(count) == res,
-        0x7D => a.ushr(count) == res,
-        _ => false,
+        0x94 => Some(lcmp(a, b)),
+        0x95 => Some(compare::<f32>(word(a)?, word(b)?, Unordered::Less)),
+        0x96 => Some(compare::<f32>(word(a)?, word(b)?, Unordered::Greater)),
+        0x97 => Some(compare::<f64>(a, b, Unordered::Less)),
+        0x98 => Some(compare::<f64>(a, b, Unordered::Greater)),
+        _ => None,
     }
 }
 
-// From two doubles.
-fn double_holds(op: u64, a: u64, b: u64, res: u64) -> bool {
+// Of two ints by whose order a branch is taken.
+fn test(op: u64, a: u32, b: u32) -> Option<bool> {
     match op {
-        0x63 => floats::add::<f64>(a, b) == res,
-        0x67 => floats::sub::<f64>(a, b) == res,
-        0x6B => floats::mul::<f64>(a, b) == res,
-        0x6F => floats::div::<f64>(a, b) == res,
-        0x73 => floats::rem::<f64>(a, b) == res,
-        0x97 => wide(floats::compare::<f64>(a, b, Unordered::Less)) == res,
-        0x98 => wide(floats::compare::<f64>(a, b, Unordered::Greater)) == res,
-        _ => false,
+        0x9F => Some(cmpeq(a, b)),
+        0xA0 => Some(cmpne(a, b)),
+        0xA1 => Some(icmplt(a, b)),
+        0xA2 => Some(icmple(b, a)),
+        0xA3 => Some(icmplt(b, a)),
+        0xA4 => Some(icmple(a, b)),
+        _ => None,
     }
 }
 
-// From one long or one double.
-fn one_long_holds(op: u64, a: u64, res: u64) -> bool {
+// Of the opcodes from IADD to LXOR: ints, longs, floats and doubles take turns, and from ISHL on ints and longs.
+fn arithmetic(op: u64, a: u64, b: u64) -> Option<u64> {
     match op {
-        0x75 => a.neg() == res,
-        0x77 => floats::neg::<f64>(a) == res,
-        0x88 => wide(integers::l2i(a)) == res,
-        0x89 => wide(conversions::of_int::<u64, f32>(a)) == res,
-        0x8A => conversions::of_int::<u64, f64>(a) == res,
-        0x8E => wide(conversions::to_int::<f64, u32>(a)) == res,
-        0x8F => conversions::to_int::<f64, u64>(a) == res,
-        0x90 => wide(conversions::d2f(a)) == res,
-        _ => false,
+        0x78 | 0x7A | 0x7C => shifted(op, word(a)?, word(b)?).map(u64::from),
+        0x79 | 0x7B | 0x7D => shifted(op - 1, a, word(b)?),
+        0x7E | 0x80 | 0x82 => integer(op, word(a)?, word(b)?).map(u64::from),
+        0x7F | 0x81 | 0x83 => integer(op - 1, a, b),
+        _ => match op % 4 {
+            0 => integer(op, word(a)?, word(b)?).map(u64::from),
+            1 => integer(op - 1, a, b),
+            2 => float::<f32>(op, word(a)?, word(b)?).map(u64::from),
+            _ => float::<f64>(op - 1, a, b),
+        },
     }
 }
 
-// The families whose operands are words.
-fn words_hold(op: u64, a: u32, b: u32, res: u64) -> bool {
-    int_holds(op, a, b, res)
-        || increment_holds(op, a, b, res)
-        || test_holds(op, a, b, res)
-        || float_holds(op, a, b, res)
-        || b == 0 && one_word_holds(op, a, res)
+// The result of the function with an opcode for a and b, or for a alone where b is 0; none where an operand is too wide for it, or the divisor is 0.
+fn result(op: u64, a: u64, b: u64) -> Option<u64> {
+    match op {
+        0x60..=0x83 => arithmetic(op, a, b),
+        0x84 | 0xC4 => increment(op, word(a)?, b).map(u64::from),
+        0x88..=0x8A | 0x8E..=0x90 if b == 0 => of_two_words(op, a),
+        0x85..=0x93 if b == 0 => of_word(op, word(a)?),
+        0x94..=0x98 => order(op, a, b).map(u64::from),
+        0x9F..=0xA4 => test(op, word(a)?, word(b)?).map(u64::from),
+        _ => None,
+    }
 }
 
-// Whether the function with this opcode takes a and b, or a alone where b is 0, to the result. An operand that is too wide for
-// the function is a difference.
-pub(crate) fn holds(op: u64, a: u64, b: u64, res: u64) -> bool {
-    if long_holds(op, a, b, res) || double_holds(op, a, b, res) {
-        return true;
-    }
-    if b == 0 && one_long_holds(op, a, res) {
-        return true;
-    }
-    if b > WORD {
-        return false;
-    }
-    if shift_holds(op, a, b as u32, res) {
-        return true;
-    }
-    a <= WORD && words_hold(op, a as u32, b as u32, res)
+// Whether that function takes a and b to a result.
+pub(crate) fn holds(op: u64, a: u64, b: u64, expected: u64) -> bool {
+    result(op, a, b) == Some(expected)
 }
