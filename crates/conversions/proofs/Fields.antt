@@ -1,23 +1,21 @@
 -- A pattern by its fields, the exponent's x and the digits t: the number it stands for, and its value at another format. Over the formats. Assumes nothing.
 use mathlib.Core.Path.{◌≡◌, refl, sym, ap, ◌∙◌, subst}
 use mathlib.Core.Logic.{◌⊎◌, inl, inr}
-use Prim.Native.Nat.{ℕ, zero, suc, ◌+◌, ◌-◌, ◌*◌, ◌/◌, ◌%◌, ◌^◌, ◌≤◌, ◌<◌, min}
+use Prim.Native.Nat.{ℕ, zero, suc, ◌+◌, ◌-◌, ◌*◌, ◌/◌, ◌%◌, ◌^◌, ◌≤◌, ◌<◌}
 use native.Mathlib.Nat.{lt_irrefl, eq-or-lt_of_le, div-lt_iff_lt-mul, mul_comm}
 use native.Mathlib.Omega.{arith}
 use mathlib.Core.Bool.{Bool, true, false, cond}
-use lib.Dec.{T, eqb, eqb→eq, leb}
+use lib.Dec.{T, eqb, leb}
 use lib.Pow.{pow_pos}
 use lib.Ieee.{Float, nan, inf, fin, Format, binary32, binary64, prec, emax, low, up, down, odd, round, hid, ones, top, to_bits, of_fields, of_bits, fits}
 use lib.Ieee.Fits.{two, down_pos, round-fits, inf-fits, nan-fits}
 use lib.Ieee.Bits.{to_bits-lt}
 use lib.Ieee.Exact.{HasValue, odd_sign}
-use lib.Ieee.Nearest.{closest}
 use lib.Ieee.Scale.{round_same}
 use borrow.Author.Tests.{ne_eqb, eq-eqb, le-leb, lt-leb}
 use Rattle.values.specs.Floats.{nearest}
 use Rattle.conversions.proofs.Powers.{twice_highest}
-use Rattle.conversions.proofs.RoundedBits.{round_bits}
-use Rattle.conversions.proofs.SignBit.{inf_sign, odd_negative, round_sign}
+use Rattle.conversions.proofs.SignBit.{inf_sign, round_sign}
 
 -- ---- a pattern is its sign and its fields
 pub of_plus : (f : Format) (b : ℕ) → b < top f → of_bits f b ≡ of_fields f false (b % top f / hid f) (b % hid f)
@@ -99,21 +97,6 @@ field_top f w h l = at_most (w / hid f) (ones f) l ((div-lt_iff_lt-mul (pow_pos 
     at_most : (x o : ℕ) → o ≤ x → x < suc o → x ≡ o
     at_most x o l h = omega arith
 
--- ---- the sign stands apart, at any format
-pub fields_negative : (f g : Format) (x t : ℕ) → (x ≡ ones f → t ≡ 0) → to_bits g (of_fields f true x t) ≡ top g + to_bits g (of_fields f false x t)
-unfolding of_fields
-fields_negative f g zero t z = odd_negative g (prec f) t 0 (low f)
-fields_negative f g (suc x) t z = go (eqb (suc x) (ones f)) (eqb t 0) (λ h. none (eqb→eq (suc x) (ones f) h))
-  where
-    none : suc x ≡ ones f → T (eqb t 0)
-    none e = subst (λ (n : ℕ). T (eqb n 0)) (sym (z e)) tt
-
-    go : (a b : Bool) → (T a → T b)
-        → to_bits g (cond a (cond b (inf true) nan) (odd (prec f) true (hid f + t) x (low f))) ≡ top g + to_bits g (cond a (cond b (inf false) nan) (odd (prec f) false (hid f + t) x (low f)))
-    go true true h = inf_sign g
-    go true false h = absurd (h tt)
-    go false b h = odd_negative g (prec f) (hid f + t) x (low f)
-
 -- ---- the nearest value at another format
 nearest_value : (g : Format) (v : Float) (s : Bool) (a c : ℕ) → 0 < c → HasValue v s a c → nearest g v ≡ round g s a c
 unfolding nearest
@@ -142,13 +125,6 @@ module _ (f g : Format) (x t : ℕ) where
 
   pub rounded : (s : Bool) → x < ones f → nearest g (of_fields f s x t) ≡ round g s (lead f x t * 2 ^ place x) (2 ^ low f)
   rounded s l = nearest_value g (of_fields f s x t) s (lead f x t * 2 ^ place x) (2 ^ low f) (pow_pos (low f)) (fields_value f s x t l)
-
-  -- m / 2 ^ j is what the format keeps, and k digits are dropped
-  pub nearest_bits : (s : Bool) (m j k : ℕ) → x < ones f → lead f x t * 2 ^ place x * 2 ^ low g * 2 ^ j ≡ m * 2 ^ k * 2 ^ low f
-      → m < 2 ^ (prec g + j) → (k ≡ 0) ⊎ (2 ^ (prec g - 1 + j) ≤ m)
-      → to_bits g (nearest g (of_fields f s x t)) ≡ cond s (top g) 0 + min (k * hid g + closest m (2 ^ j)) (ones g * hid g)
-  nearest_bits s m j k l e hi le =
-      ap (to_bits g) (rounded s l) ∙ round_bits g s (lead f x t * 2 ^ place x) (2 ^ low f) m j k (pow_pos (low f)) e hi le
 
   module _ (h : x ≤ ones f) (z : x ≡ ones f → t ≡ 0) where
     pub nearest_negative : to_bits g (nearest g (of_fields f true x t)) ≡ top g + to_bits g (nearest g (of_fields f false x t))

@@ -1,5 +1,5 @@
 -- The pattern of the value nearest to m * 2 ^ p / 2 ^ l, from m moved up by its leading zeros. Over the format. Assumes nothing.
-use mathlib.Core.Path.{◌≡◌, refl, sym, ap, ◌∙◌, subst}
+use mathlib.Core.Path.{◌≡◌, refl, sym, ap, ◌∙◌}
 use mathlib.Core.Logic.{◌⊎◌, inl, inr}
 use Prim.Native.Nat.{ℕ, ◌+◌, ◌-◌, ◌*◌, ◌%◌, ◌^◌, ◌≤◌, ◌<◌, min}
 use native.Mathlib.Nat.{le_trans, le_of_eq, lt_of_lt_of_le, zero-add, zero-mul, mod-eq_of_lt}
@@ -11,8 +11,7 @@ use lib.Pow.{pow_pos, pow_mono}
 use lib.Ieee.{Format, binary32, binary64, prec, low, round, hid, ones, top, to_bits}
 use lib.Ieee.Nearest.{closest}
 use Rattle.conversions.proofs.Powers.{two_powers, three_powers}
-use Rattle.conversions.proofs.Quotients.{closest_le}
-use Rattle.conversions.proofs.LeadingZeros.{zeros_lt, normalised}
+use Rattle.conversions.proofs.LeadingZeros.{normalised}
 use Rattle.conversions.proofs.RoundedBits.{round_bits}
 
 -- the word is as wide as the format's digits
@@ -20,18 +19,9 @@ pub wide : (f : Format) → prec f ≤ 64
 wide binary32 = lit≤ tt
 wide binary64 = lit≤ tt
 
-pub low_le : (f : Format) → low f ≤ 1074
-low_le binary32 = lit≤ tt
-low_le binary64 = lit≤ tt
-
 pub sum_fits : (f : Format) (n : ℕ) → n < 2 * top f → n < 2 ^ 64
 sum_fits binary32 n h = lt_of_lt_of_le h (lit≤ tt)
 sum_fits binary64 n h = h
-
--- an exponent and rounded digits as one number
-pub fits_64 : (f : Format) (k q : ℕ) → k ≤ 2045 + low f + (64 - prec f) → q ≤ 2 ^ prec f → k * hid f + q < 2 ^ 64
-fits_64 binary32 k q h l = omega arith
-fits_64 binary64 k q h l = omega arith
 
 pub rounded_zero : (f : Format) (p l : ℕ) → 0 ≡ to_bits f (round f false (0 * 2 ^ p) (2 ^ l))
 rounded_zero f p l = none f ∙ sym (round_bits f false (0 * 2 ^ p) (2 ^ l) 0 0 0 (pow_pos l) (simp zero-mul) (pow_pos (prec f + 0)) (inl refl))
@@ -63,9 +53,6 @@ module _ (f : Format) (m p l : ℕ) (positive : 0 < m) (below : m < 2 ^ 64) wher
   module _ (q : ℕ) (e : q ≡ closest ((m * 2 ^ Zeros) % 2 ^ 64) (2 ^ Shift)) where
     q_is : q ≡ closest (m * 2 ^ Zeros) (2 ^ Shift)
     q_is = e ∙ ap (λ (n : ℕ). closest n (2 ^ Shift)) (mod-eq_of_lt (normalised 64 m positive below).1)
-
-    pub kept_le : q ≤ 2 ^ prec f
-    kept_le = subst (λ (x : ℕ). x ≤ 2 ^ prec f) (sym q_is) (closest_le (m * 2 ^ Zeros) (prec f) Shift in_range)
 
     pub nearest_is : min (Exponent * hid f + q) (ones f * hid f) ≡ to_bits f (round f false (m * 2 ^ p) (2 ^ l))
     nearest_is =

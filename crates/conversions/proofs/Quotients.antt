@@ -1,5 +1,5 @@
 -- How large the whole number nearest to m / u is. Assumes nothing.
-use mathlib.Core.Path.{◌≡◌, refl, sym, ap, ◌∙◌, subst}
+use mathlib.Core.Path.{◌≡◌, refl, ap, ◌∙◌}
 use Prim.Native.Nat.{ℕ, ◌+◌, ◌*◌, ◌/◌, ◌%◌, ◌^◌, ◌≤◌, ◌<◌, compare, Ordering}
 use native.Mathlib.Nat.{mod-eq_of_lt, div-eq_of_lt, le_trans}
 use native.Mathlib.Omega.{arith}

@@ -1,6 +1,6 @@
 -- `of_float` meets its contract: the NaN, or the sign bit and what the fields are converted to. Assumes nothing.
-use Rattle.std.proofs.Common.{◌+◌, ◌*◌, ◌/◌, ◌%◌, ◌≤◌, sym, ap, ◌∙◌}
-use lib.Ieee.{Float, ones, hid, top, to_bits}
+use Rattle.std.proofs.Common.{◌+◌, ◌/◌, ◌%◌, sym, ap, ◌∙◌}
+use lib.Ieee.{Float, hid, top, to_bits}
 use lib.Ieee.Bits.{to_bits-lt}
 use Rattle.values.specs.Floats.{nearest}
 use Rattle.conversions.proofs.Nearest.{sum_fits}
@@ -33,9 +33,8 @@ pub returns-then-n-sign-clause-rounded : goal.returns-then-n-sign-clause-rounded
 returns-then-n-sign-clause-rounded g c = let f = g.F.Format.format in
     let h = g.G.Format.format in
     let n = c.number-n.result in
-    rw (c.word.ensures, ← c.number-n.ensures.same)
-    (rw (c.sign.ensures, c.hidden.ensures, c.hidden-2.ensures) at c.converted-word.ensures
-    ∙ sym (ap (λ (v : Float). to_bits h (nearest h v)) (of_plus f n (rw c.sign-2.ensures at c.if-n-sign.true))))
+    rw (c.word.ensures, ← c.number-n.ensures.same, c.converted-word.ensures, c.sign.ensures, c.hidden.ensures, c.hidden-2.ensures)
+    (sym (ap (λ (v : Float). to_bits h (nearest h v)) (of_plus f n (rw c.sign-2.ensures at c.if-n-sign.true))))
 
 pub returns-then-n-sign-clause-exact : goal.returns-then-n-sign-clause-exact
 returns-then-n-sign-clause-exact g c = λ h. returns-then-n-sign-clause-rounded g c ∙ exact g.F.Format.format g.G.Format.format h (g.F.Word.Word.number c.args.a)
@@ -45,9 +44,8 @@ returns-else-n-sign-clause-rounded g c = let f = g.F.Format.format in
     let h = g.G.Format.format in
     let n = c.number-n.result in
     let in_range = number_fields f n (rw (c.infinity.ensures, c.sign.ensures) at c.if-unsigned-infinity.false) in
-    rw (c.word-else-n-sign.ensures, c.sign-else-n-sign.ensures, ← c.number-n.ensures.same)
-    (ap (λ n. top h + n) (rw (c.sign.ensures, c.hidden.ensures, c.hidden-2.ensures) at c.converted-word.ensures)
-    ∙ sym (ap (λ (v : Float). to_bits h (nearest h v)) (of_minus f n (rw c.sign-2.ensures at c.if-n-sign.false))
+    rw (c.word-else-n-sign.ensures, c.sign-else-n-sign.ensures, ← c.number-n.ensures.same, c.converted-word.ensures, c.sign.ensures, c.hidden.ensures, c.hidden-2.ensures)
+    (sym (ap (λ (v : Float). to_bits h (nearest h v)) (of_minus f n (rw c.sign-2.ensures at c.if-n-sign.false))
     ∙ nearest_negative f h (n % top f / hid f) (n % hid f) in_range.0 in_range.1))
 
 pub returns-else-n-sign-clause-exact : goal.returns-else-n-sign-clause-exact

@@ -1,5 +1,6 @@
 -- `of_int` meets its contract: the sign bit, and the word nearest to the magnitude. Assumes nothing.
-use Rattle.std.proofs.Common.{◌+◌, ◌-◌, mul-one}
+use Rattle.std.proofs.Common.{◌+◌, ◌-◌, ◌*◌, mul-one}
+use lib.Ieee.{round}
 use lib.Ieee.Fits.{round-fits}
 use lib.Ieee.Bits.{to_bits-lt}
 use Rattle.conversions.proofs.SignBit.{round_sign_lt}
@@ -9,7 +10,7 @@ use Rattle.conversions.proofs.int_to_float.of_int.Goals as goal
 
 pub word-requires : goal.word-requires
 word-requires g c = let f = g.F.Format.format in
-    rw c.nearest.ensures (to_bits-lt f _ (round-fits f _ _ _))
+    rw c.nearest.ensures (to_bits-lt f (round f _ (c.number-n.result * 1) 1) (round-fits f _ (c.number-n.result * 1) 1))
 
 pub word-requires-else-n-negative : goal.word-requires-else-n-negative
 word-requires-else-n-negative g c = rw c.sign.ensures (round_sign_lt g.F.Format.format _ 1 c.nearest-else-n-negative.ensures)

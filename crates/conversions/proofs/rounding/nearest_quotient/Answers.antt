@@ -1,5 +1,5 @@
 -- `nearest_quotient` meets its contract where the unit is no word: below a half it is 0, and below one 1 above a half. Assumes nothing.
-use Rattle.std.proofs.Common.{◌≡◌, ℕ, ◌*◌, ◌<◌, ◌≤◌, ◌^◌, Bool, true, false, ltb, ltb-true, ltb-false, sym, ◌∙◌, refl, arith}
+use Rattle.std.proofs.Common.{◌≡◌, ℕ, ◌<◌, ◌≤◌, ◌^◌, Bool, true, false, ltb, ltb-true, ltb-false, sym, ◌∙◌, refl, arith}
 use mir.Val.{bool_byte}
 use lib.Pow.{pow_mono}
 use lib.Ieee.Nearest.{closest}
