@@ -1,12 +1,42 @@
 // The constant pool (const_pool.rs) as kinds and words: question 9, and the words of a constant as they stand, a NaN's payload included.
 #![tactic(auto)]
 
-ghost use Rattle.std.specs.Prelude.{◌≡◌, get_or};
-ghost use Rattle.values.specs.Kinds.{int, long, float, double};
-ghost use Rattle.const_pool.specs.Constant.{constant_of};
+ghost use Rattle.std.specs.Prelude.{◌≡◌, ◌||◌};
+ghost use Rattle.values.specs.Kinds.{places};
+ghost use Rattle.rules.specs.Questions.{tagged};
+ghost use Rattle.const_pool.specs.Constant.{constant_of, first_kind, second_kind};
 
-use rules::Refusal;
 use rules::tags::*;
+use rules::{Method, Refusal};
+
+// How many words a constant has that an instruction loads: one is an int's or a float's (LDC and LDC_W), two are a long's or a double's (LDC2_W).
+#[derive(Clone, Copy)]
+pub enum Width {
+    One,
+    Two,
+}
+
+impl Width {
+    // How many entries of the pool a constant takes.
+    fn places(self) -> usize
+        ensures { result ≡ places (first_kind self) }
+    {
+        match self {
+            Width::One => 1,
+            Width::Two => 2,
+        }
+    }
+
+    // Whether a tag is that of a constant of this width.
+    fn has(self, tag: u8) -> bool
+        ensures { result ≡ (tagged tag (first_kind self) || tagged tag (second_kind self)) }
+    {
+        match self {
+            Width::One => matches!(tag, CONSTANT_INTEGER | CONSTANT_FLOAT),
+            Width::Two => matches!(tag, CONSTANT_LONG | CONSTANT_DOUBLE),
+        }
+    }
+}
 
 // A constant's words, the high one 0 where it has one word.
 #[derive(Clone, Copy)]
@@ -15,48 +45,18 @@ pub struct Constant {
     pub high: u32,
 }
 
-// The word at an index, and 0 past the end.
-fn word_at(words: &[u32], index: usize) -> u32
-    ensures { result ≡ get_or words.now index 0 }
-{
-    words.get(index).copied().unwrap_or(0)
-}
-
-// LDC and LDC_W: an int or a float.
-pub fn ldc(kinds: &[u8], words: &[u32], index: u32) -> Result<Constant, Refusal>
-    ensures { result ≡ constant_of kinds.now words.now index int float }
+// The constant of a width that stands at an index; one of two words with a following entry of any kind.
+pub fn load_constant(method: &Method, index: u32, width: Width) -> Result<Constant, Refusal>
+    ensures { result ≡ constant_of method.now.kinds.now method.now.words.now index (first_kind width) (second_kind width) }
 {
     let at = index as usize;
-    if kinds.len() < at + 1 {
+    if method.kinds.len() < at + width.places() || !width.has(method.kinds[at]) {
         return Err(Refusal::Constant);
     }
-    let kind = kinds[at];
-    let low = word_at(words, at);
-    if kind == CONSTANT_INTEGER {
-        return Ok(Constant { low, high: 0 });
-    }
-    if kind == CONSTANT_FLOAT {
-        return Ok(Constant { low, high: 0 });
-    }
-    Err(Refusal::Constant)
-}
-
-// LDC2_W: a long or a double, with a following entry of any kind.
-pub fn ldc2_w(kinds: &[u8], words: &[u32], index: u32) -> Result<Constant, Refusal>
-    ensures { result ≡ constant_of kinds.now words.now index long double }
-{
-    let at = index as usize;
-    if kinds.len() < at + 2 {
-        return Err(Refusal::Constant);
-    }
-    let kind = kinds[at];
-    let low = word_at(words, at);
-    let high = word_at(words, at + 1);
-    if kind == CONSTANT_LONG {
-        return Ok(Constant { low, high });
-    }
-    if kind == CONSTANT_DOUBLE {
-        return Ok(Constant { low, high });
-    }
-    Err(Refusal::Constant)
+    let low = method.words.get(at).copied().unwrap_or(0);
+    let high = match width {
+        Width::One => 0,
+        Width::Two => method.words.get(at + 1).copied().unwrap_or(0),
+    };
+    Ok(Constant { low, high })
 }

@@ -1,8 +1,9 @@
 // What the functions under test answer, in the fields of a vector.
-use const_pool::{Constant, ldc, ldc2_w};
+use const_pool::{Width, load_constant};
 use instructions::opcodes::*;
 use instructions::{Decoded, decode, entry};
 use operands::{lookup_offset, read_code_u8, table_offset};
+use rules::Method;
 
 // Three numbers, 0 where there is none, or the number of a refusal.
 pub(crate) type Answer = Result<[u64; 3], u32>;
@@ -37,17 +38,16 @@ pub(crate) fn branch(code: &[u8], pc: u32, key: u32) -> Option<Answer> {
     Some(Ok([offset as u64, 0, 0]))
 }
 
-// The words of the constant at an index, for an opcode that loads one; none for any other.
-pub(crate) fn constant(kinds: &[u8], words: &[u32], index: u32, opcode: u32) -> Option<Answer> {
-    let found = if opcode == LDC as u32 {
-        ldc(kinds, words, index)
-    } else if opcode == LDC2_W as u32 {
-        ldc2_w(kinds, words, index)
-    } else {
-        return None;
+// The words of the constant at an index of a method's pool, for an opcode that loads one; none for any other.
+pub(crate) fn constant(method: &Method, index: u32, opcode: u32) -> Option<Answer> {
+    let width = match u8::try_from(opcode) {
+        Ok(LDC) => Width::One,
+        Ok(LDC2_W) => Width::Two,
+        _ => return None,
     };
-    match found {
-        Ok(found) => Some(Ok([found.low as u64, found.high as u64, 0])),
-        Err(refusal) => Some(Err(refusal.number())),
-    }
+    Some(
+        load_constant(method, index, width)
+            .map(|found| [found.low as u64, found.high as u64, 0])
+            .map_err(|refusal| refusal.number()),
+    )
 }

@@ -1,4 +1,4 @@
-// Runs vectors from standard input through `decode` of instructions, the two switches of operands and the two loads of const_pool,
+// Runs vectors from standard input through `decode` of instructions, the two switches of operands and `load_constant` of const_pool,
 // and counts those that differ, by kind and in all. judge/src/lists/decoding writes the vectors and says how a line is laid out.
 #![tactic(auto)]
 
@@ -9,6 +9,7 @@ mod fields;
 use crate::failures::Failure;
 use crate::fields::{Line, code_of, expected, is_laid_out, number, pool_of};
 use reading::read_record;
+use rules::Method;
 use std::alloc::Global;
 use std::io;
 use vectors::Tally;
@@ -51,7 +52,13 @@ fn vector_holds(alloc: Global, line: &Line, kind: Kind) -> Result<bool, Failure>
         }
         Kind::Pool => {
             let pool = pool_of(alloc, line, count)?;
-            answers::constant(&pool.kinds, &pool.words, at, key)
+            let method = Method {
+                code: &[],
+                kinds: &pool.kinds,
+                words: &pool.words,
+                handlers: &[],
+            };
+            answers::constant(&method, at, key)
         }
     };
     Ok(answer == Some(expected(line)?))

@@ -14,11 +14,11 @@ fn catch_at(code: &[u8], s: State, handler: u16) -> Decision
     if s.max_stack == 0 {
         return Err(Halt::Refused(Refusal::StackOverflow));
     }
-    inside(code, handler as usize)?;
+    inside(code, usize::from(handler))?;
     Ok(Update {
-        pc: handler as u32,
+        pc: u32::from(handler),
         depth: 1,
-        first: s.max_locals as u32,
+        first: u32::from(s.max_locals),
         many: 1,
         w0: 1,
         w1: 0,
@@ -33,7 +33,7 @@ fn catch_at(code: &[u8], s: State, handler: u16) -> Decision
 pub fn throw_at(method: &Method, s: State, pc: u32) -> Decision
     ensures { result ≡ decision (thrown_at (lent method.now) s pc) }
 {
-    match find_handler(method.kinds, method.words, method.handlers, pc) {
+    match find_handler(method, pc) {
         None => Err(Halt::Throw),
         Some(handler) => catch_at(method.code, s, handler),
     }

@@ -3,7 +3,7 @@ ghost use Rattle.std.specs.Prelude.{◌≡◌, get_or};
 ghost use Rattle.rules.specs.Lent.{lent, plain};
 ghost use Rattle.interpreter.specs.Stages.{four_at, from_pool, reads_local, read_of};
 
-use const_pool::{Constant, ldc, ldc2_w};
+use const_pool::{Constant, Width, load_constant};
 use instructions::opcodes::*;
 use rules::{Method, Refusal};
 
@@ -77,10 +77,10 @@ pub(crate) fn read_words(
     ensures { result ≡ read_of (plain (lent method.now)) slots.now op index base }
 {
     if op == LDC {
-        return from_pool(ldc(method.kinds, method.words, index));
+        return from_pool(load_constant(method, index, Width::One));
     }
     if op == LDC2_W {
-        return from_pool(ldc2_w(method.kinds, method.words, index));
+        return from_pool(load_constant(method, index, Width::Two));
     }
     if reads_local(op) {
         return Ok(four_at(slots, index));

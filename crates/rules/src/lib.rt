@@ -2,6 +2,7 @@
 #![tactic(auto)]
 
 mod halts;
+pub mod letters;
 mod methods;
 mod refusals;
 mod sheets;

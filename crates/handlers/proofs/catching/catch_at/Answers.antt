@@ -1,9 +1,9 @@
 -- `catch_at` meets its contract. Assumes nothing.
-use Rattle.std.proofs.Common.{◌≡◌, ◌≤◌, arith, sym, ap, ◌∙◌}
+use Rattle.std.proofs.Common.{◌≡◌, ◌≤◌, Ok, pos, arith, sym, ap, ◌∙◌}
 use Rattle.std.proofs.lemmas.Result.{err_from_is_err_and}
 use borrow.Author.Tests.{le-leb}
 use Rattle.rules.specs.Check.{◌else◌, ◌>>◌, ◌>>=◌}
-use Rattle.rules.specs.Step.{decision}
+use Rattle.rules.specs.Step.{inside, decision}
 use Rattle.rules.proofs.Step.{inside_place}
 use Rattle.rules.proofs.Handlers.{no_room_to_catch}
 use Rattle.handlers.proofs.catching.catch_at.Goals as goal
@@ -17,11 +17,11 @@ unfolding ◌else◌ ◌>>◌ ◌>>=◌
 returns-in_err-inside c = let a = c.args in
     let room : 1 ≤ a.s.max_stack = omega arith in
     let p = err_from_is_err_and c.from_residual.result c.from_residual.ensures.1 in
-    rw (p.1, p.2) (simp (le-leb _ _ room, ← c.inside.ensures, c.in_err-inside.was))
+    rw (p.1, p.2) (simp (le-leb _ _ room, ← c.from.ensures, ← c.inside.ensures, c.in_err-inside.was))
 
 pub returns : goal.returns
 unfolding ◌else◌ ◌>>◌ ◌>>=◌
 returns c = let a = c.args in
     let room : 1 ≤ a.s.max_stack = omega arith in
-    let answer = sym c.inside.ensures ∙ c.in_ok-inside.was in
-    simp (le-leb _ _ room, answer, ← inside_place a.code.now a.handler _ answer)
+    let answer : inside a.code.now (pos a.handler) ≡ Ok c.in_ok-inside.field-0 = rw (← c.from.ensures) (sym c.inside.ensures ∙ c.in_ok-inside.was) in
+    rw (c.from-2.ensures, c.from-3.ensures) (simp (le-leb _ _ room, answer, ← inside_place a.code.now a.handler _ answer))
