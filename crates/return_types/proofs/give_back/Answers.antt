@@ -1,13 +1,14 @@
 -- `give_back` meets its contract. Assumes nothing.
-use mathlib.Core.Path.{sym, ap, ◌∙◌}
-use borrow.Author.Tests.{not-true, not-false}
-use Rattle.rules.proofs.Returns.{of_another_kind, gives_back}
-use Rattle.return_types.proofs.give_back.Goals as goal
-use Rattle.std.specs.Prelude.{Err}
+use Rattle.std.proofs.Common.{sym, ap, ◌∙◌, Err}
 use Rattle.rules.specs.declared.halts.Halt.TheVariants.{Return}
+use Rattle.return_types.proofs.Words.{of_no_type, of_this_type, of_another_type}
+use Rattle.return_types.proofs.give_back.Goals as goal
 
-pub returns-then-not-may_return : goal.returns-then-not-may_return
-returns-then-not-may_return c = sym (of_another_kind c.args.return_type c.args.v (sym c.may_return.ensures ∙ not-true _ c.if-not-may_return.true-raw))
+pub returns-in_default : goal.returns-in_default
+returns-in_default c = of_no_type c.args.return_type c.args.v c.in_default.ensures
+
+pub returns-then-not-suits : goal.returns-then-not-suits
+returns-then-not-suits c = of_another_type c.args.return_type c.in-Some.t c.args.v c.in-Some.ensures (sym c.suits.ensures ∙ c.if-not-suits.true)
 
 pub returns : goal.returns
-returns c = ap (λ v. Err (Return v)) c.given_back.ensures ∙ sym (gives_back c.args.return_type c.args.v (sym c.may_return.ensures ∙ not-false _ c.if-not-may_return.false-raw))
+returns c = ap (λ v. Err (Return v)) c.given_back.ensures ∙ of_this_type c.args.return_type c.in-Some.t c.args.v c.in-Some.ensures (sym c.suits.ensures ∙ c.if-not-suits.false)
