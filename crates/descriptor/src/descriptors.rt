@@ -1,12 +1,14 @@
 // The whole descriptor: ( parameters ) return, and nothing after it.
-ghost use Rattle.std.specs.Prelude.{◌≡◌, ◌≤◌, length};
+ghost use Rattle.std.specs.Prelude.{◌≡◌};
 ghost use Rattle.rules.specs.Descriptor.{return_letter, return_end};
-ghost use Rattle.descriptor.specs.Answers.{Counted, Exact, described, some_offset};
+ghost use Rattle.descriptor.specs.Answers.{Counted, Exact, Parsed, described};
+ghost use Rattle.descriptor.specs.Cursors.{EndsAt};
 
-use crate::fields::{field_end, places_of};
-use crate::letters::{ARRAY, CLASS, CLOSING, OPENING, VOID};
-use operands::read_code_u8;
+use crate::cursor::Cursor;
+use crate::fields::places_of;
+use crate::letters::{CLOSING, OPENING};
 use rules::Refusal;
+use rules::letters::{ARRAY, CLASS, VOID};
 
 // What a descriptor says: the places of its parameters, and its return type (B C D F I J L S V Z, L for every reference).
 #[derive(Clone, Copy)]
@@ -15,42 +17,43 @@ pub struct Descriptor {
     pub return_type: u32,
 }
 
-// The offset after the parameters, and their places.
+// The place after the parameters, and how many places of a frame they have.
 #[derive(Clone, Copy)]
-struct Parameters {
-    end: usize,
+struct Parameters<'a> {
+    end: Cursor<'a>,
     places: u32,
 }
 
 // The parameters of a method have at most so many places.
 const PLACES: u32 = 255;
 
-// The parameters, from offset 1 on; none where they have more places than a method may have. They differ in length, so an offset goes from one to the next.
-fn read_parameters(d: &[u8]) -> Option<Parameters>
-    requires { 1 ≤ length d.now }
-    ensures { Counted d.now result }
-{
-    let mut at = 1;
-    let mut places = 0;
-    while places <= PLACES {
-        let Some(next) = field_end(d, at) else {
-            return Some(Parameters { end: at, places });
-        };
-        places += places_of(read_code_u8(d, at));
-        at = next;
+impl<'a> Cursor<'a> {
+    // The parameters, from offset 1 on; none where they have more places than a method may have.
+    fn parameters(self) -> Option<Parameters<'a>>
+        requires { self.at ≡ 1 }
+        ensures { Counted self.entry.descriptor.now result }
+    {
+        let mut end = self;
+        let mut places = 0;
+        while places <= PLACES {
+            let Some(next) = end.field() else {
+                return Some(Parameters { end, places });
+            };
+            places += places_of(end.byte());
+            end = next;
+        }
+        None
     }
-    None
-}
 
-// The offset after the return descriptor, if one begins there.
-fn return_end(d: &[u8], at: usize) -> Option<usize>
-    requires { at ≤ length d.now }
-    ensures { result ≡ some_offset (return_end d.now at) }
-{
-    if read_code_u8(d, at) == VOID {
-        return Some(at + 1);
+    // After the return descriptor that begins here, if one does.
+    fn returned(self) -> Option<Cursor<'a>>
+        ensures { EndsAt self.entry.descriptor.now (return_end self.entry.descriptor.now self.entry.at) result }
+    {
+        if self.byte() == VOID {
+            return Some(self.next());
+        }
+        self.field()
     }
-    field_end(d, at)
 }
 
 // The return type by the first character of the return descriptor.
@@ -63,26 +66,25 @@ fn return_letter(first: u8) -> u32
     u32::from(first)
 }
 
+// What these bytes say, if they are a method descriptor.
+fn parse(d: &[u8]) -> Option<Descriptor>
+    ensures { Parsed d.now result }
+{
+    let parameters = Cursor::start(d).past(OPENING)?.parameters()?;
+    let returned = parameters.end.past(CLOSING)?;
+    if returned.returned()?.at != d.len() {
+        return None;
+    }
+    Some(Descriptor {
+        places: parameters.places,
+        return_type: return_letter(returned.byte()),
+    })
+}
+
 // Whether these bytes are a method descriptor, and what it says.
 pub fn read_descriptor(d: &[u8]) -> Result<Descriptor, Refusal>
     ensures value { result ≡ described d.now }
     ensures exact { Exact d.now result }
 {
-    if read_code_u8(d, 0) != OPENING {
-        return Err(Refusal::Descriptor);
-    }
-    let Some(p) = read_parameters(d) else {
-        return Err(Refusal::Descriptor);
-    };
-    if read_code_u8(d, p.end) != CLOSING {
-        return Err(Refusal::Descriptor);
-    }
-    let start = p.end + 1;
-    if return_end(d, start) != Some(d.len()) {
-        return Err(Refusal::Descriptor);
-    }
-    Ok(Descriptor {
-        places: p.places,
-        return_type: return_letter(read_code_u8(d, start)),
-    })
+    parse(d).ok_or(Refusal::Descriptor)
 }

@@ -1,12 +1,11 @@
 // A field type (JVMS 4.3.2): its brackets, then a base type or a class.
-ghost use Rattle.std.specs.Prelude.{◌≡◌, ◌≤◌, length};
+ghost use Rattle.std.specs.Prelude.{◌≡◌};
 ghost use Rattle.values.specs.Kinds.{places};
 ghost use Rattle.rules.specs.Descriptor.{is_base, brackets_end, element_end, field_end, kind_of};
-ghost use Rattle.descriptor.specs.Answers.{some_offset};
+ghost use Rattle.descriptor.specs.Cursors.{EndsAt};
 
-use crate::letters::{ARRAY, BOOLEAN, BYTE, CHAR, CLASS, DOUBLE, FLOAT, INT, LONG, SHORT};
-use crate::names::name_end;
-use operands::read_code_u8;
+use crate::cursor::Cursor;
+use rules::letters::{ARRAY, BOOLEAN, BYTE, CHAR, CLASS, DOUBLE, FLOAT, INT, LONG, SHORT};
 
 // An array has at most so many.
 const DIMENSIONS: usize = 255;
@@ -21,40 +20,39 @@ fn is_base(c: u8) -> bool
     )
 }
 
-// The offset after the brackets, of which it passes at most 255.
-fn brackets_end(d: &[u8], start: usize) -> usize
-    requires { start ≤ length d.now }
-    ensures { result ≡ brackets_end 255 d.now start }
-{
-    for at in start..start + DIMENSIONS {
-        if read_code_u8(d, at) != ARRAY {
-            return at;
+impl<'a> Cursor<'a> {
+    // After the brackets that stand here, of which it passes at most 255.
+    fn brackets(self) -> Cursor<'a>
+        ensures same { result.descriptor.now ≡ self.entry.descriptor.now }
+        ensures after { result.at ≡ brackets_end 255 self.entry.descriptor.now self.entry.at }
+    {
+        let mut cursor = self;
+        for _ in 0..DIMENSIONS {
+            let Some(next) = cursor.past(ARRAY) else {
+                return cursor;
+            };
+            cursor = next;
+        }
+        cursor
+    }
+
+    // After the base type or the class that begins here, if one does.
+    fn element(self) -> Option<Cursor<'a>>
+        ensures { EndsAt self.entry.descriptor.now (element_end self.entry.descriptor.now self.entry.at) result }
+    {
+        match self.byte() {
+            CLASS => self.next().class_name(),
+            first if is_base(first) => Some(self.next()),
+            _ => None,
         }
     }
-    start + DIMENSIONS
-}
 
-// The offset after a base type or a class, if one begins there.
-fn element_end(d: &[u8], at: usize) -> Option<usize>
-    requires { at ≤ length d.now }
-    ensures { result ≡ some_offset (element_end d.now at) }
-{
-    let first = read_code_u8(d, at);
-    if is_base(first) {
-        return Some(at + 1);
+    // After the field type that begins here, if one does.
+    pub(crate) fn field(self) -> Option<Cursor<'a>>
+        ensures { EndsAt self.entry.descriptor.now (field_end self.entry.descriptor.now self.entry.at) result }
+    {
+        self.brackets().element()
     }
-    if first == CLASS {
-        return name_end(d, at + 1);
-    }
-    None
-}
-
-// The offset after a field type, if one begins there.
-pub(crate) fn field_end(d: &[u8], at: usize) -> Option<usize>
-    requires { at ≤ length d.now }
-    ensures { result ≡ some_offset (field_end d.now at) }
-{
-    element_end(d, brackets_end(d, at))
 }
 
 // The places of a field type, by its first character: a long and a double take two.

@@ -1,6 +1,7 @@
 // The method descriptor of JVMS 4.3.3: whether bytes are one, the places of its parameters, and its return type.
 #![tactic(auto)]
 
+mod cursor;
 mod descriptors;
 mod fields;
 mod letters;

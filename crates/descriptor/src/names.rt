@@ -1,12 +1,13 @@
 // The name of a class (JVMS 4.2.1), character by character, in modified UTF-8 (4.4.7).
-ghost use Rattle.std.specs.Prelude.{◌≡◌, cond, ◌+◌, ◌≤◌, length};
-ghost use Rattle.rules.specs.Check.{◌=ⁿ◌};
-ghost use Rattle.rules.specs.Fetch.{u8};
-ghost use Rattle.rules.specs.Descriptor.{slash, is_of_names, continues, is_one_byte, is_two_bytes, is_three_bytes, character_size, character_at, name_end};
+ghost use Rattle.std.specs.Prelude.{◌≡◌, length};
+ghost use Rattle.rules.specs.Descriptor.{is_of_names, continues, is_one_byte, is_two_bytes, is_three_bytes, character_size, name_end};
 ghost use Rattle.descriptor.specs.Answers.{some_offset};
+ghost use Rattle.descriptor.specs.Cursors.{EndsAt, after_character};
 
-use crate::letters::{ARRAY, DOT, SEMICOLON, SLASH};
+use crate::cursor::Cursor;
+use crate::letters::{DOT, SEMICOLON, SLASH};
 use operands::read_code_u8;
+use rules::letters::ARRAY;
 
 // Whether a character may stand in an unqualified name.
 fn is_of_names(c: u8) -> bool
@@ -68,41 +69,32 @@ fn character_size(a: u8, b: u8, c: u8) -> Option<usize>
     None
 }
 
-// How many bytes the character at an offset has, if one begins there.
-fn character_at(d: &[u8], at: usize) -> Option<usize>
-    requires { at ≤ length d.now }
-    ensures { result ≡ some_offset (character_at d.now at) }
-{
-    let a = read_code_u8(d, at);
-    let b = read_code_u8(d, at + 1);
-    let c = read_code_u8(d, at + 2);
-    character_size(a, b, c)
-}
-
-// The offset itself, or that after a slash which stands there.
-fn past_slash(d: &[u8], at: usize) -> usize
-    requires { at ≤ length d.now }
-    ensures { result ≡ cond (u8 d.now at =ⁿ slash) (at + 1) at }
-{
-    if read_code_u8(d, at) == SLASH {
-        return at + 1;
+impl<'a> Cursor<'a> {
+    // After the character of a name that begins here, if one does.
+    fn character(self) -> Option<Cursor<'a>>
+        ensures { EndsAt self.entry.descriptor.now (after_character self.entry.descriptor.now self.entry.at) result }
+    {
+        let a = read_code_u8(self.descriptor, self.at);
+        let b = read_code_u8(self.descriptor, self.at + 1);
+        let c = read_code_u8(self.descriptor, self.at + 2);
+        let size = character_size(a, b, c)?;
+        Some(Cursor {
+            descriptor: self.descriptor,
+            at: self.at + size,
+        })
     }
-    at
-}
 
-// The offset after a class name and its semicolon, if one begins there. Characters differ in length, so an offset goes from one to the next.
-pub(crate) fn name_end(d: &[u8], start: usize) -> Option<usize>
-    requires { start ≤ length d.now }
-    ensures { result ≡ some_offset (name_end (length d.now) d.now start) }
-{
-    let mut at = start;
-    while at < d.len() {
-        let size = character_at(d, at)?;
-        let next = at + size;
-        if read_code_u8(d, next) == SEMICOLON {
-            return Some(next + 1);
+    // After the class name and its semicolon that begin here, if they do.
+    pub(crate) fn class_name(self) -> Option<Cursor<'a>>
+        ensures { EndsAt self.entry.descriptor.now (name_end (length self.entry.descriptor.now) self.entry.descriptor.now self.entry.at) result }
+    {
+        let mut cursor = self;
+        while let Some(next) = cursor.character() {
+            if let Some(end) = next.past(SEMICOLON) {
+                return Some(end);
+            }
+            cursor = next.past(SLASH).unwrap_or(next);
         }
-        at = past_slash(d, next);
+        None
     }
-    None
 }
