@@ -116,11 +116,19 @@ module _ (code : List ℕ) (pc at low high key span i : ℕ) (start : at ≡ ali
 -- ---- the words that were read, in any order
 
 -- how far a word is past another, modulo 2 ^ 32
-abbrev past : ℕ → ℕ → ℕ
+abbrev pub past : ℕ → ℕ → ℕ
 past low x = (x + (2 ^ 32 - low)) % 2 ^ 32
 
-past_sum : (low x : ℕ) → low < 2 ^ 32 → x < 2 ^ 32 → (past low x + low) % 2 ^ 32 ≡ x
+pub past_sum : (low x : ℕ) → low < 2 ^ 32 → x < 2 ^ 32 → (past low x + low) % 2 ^ 32 ≡ x
 past_sum low x L X = omega arith
+
+-- the order and the count of the keys, by the words that were read
+module _ (code : List ℕ) (pc low high : ℕ) (lowest : low ≡ u32 code (aligned pc + 4)) (highest : high ≡ u32 code (aligned pc + 8)) (L : low < 2 ^ 32) (H : high < 2 ^ 32) where
+  pub keys_order : (r t : Bool) → r ≡ (signed 31 low ≤ᶻ signed 31 high) → r ≡ t → (low_key code pc ≤ᶻ high_key code pc) ≡ t
+  keys_order r t e f = sym (key_order code pc (aligned pc) low high refl lowest highest r e) ∙ f
+
+  pub keys_past : (r : Bool) → r ≡ (signed 31 low ≤ᶻ signed 31 high) → r ≡ true → keys code pc ≡ past low high + 1
+  keys_past r e f = key_count code pc (aligned pc) low high refl lowest highest (past low high) L H (omega arith) (past_sum low high L H) (sym e ∙ f)
 
 -- h and k are p and q past l: what the order of the three says of p and q
 module _ (l h k p q : ℕ) (H : h < 2 ^ 32) (K : k < 2 ^ 32) (P : p < 2 ^ 32) (Q : q < 2 ^ 32) (hp : h ≡ (p + l) % 2 ^ 32) (kq : k ≡ (q + l) % 2 ^ 32) (order : l ≤ h) where

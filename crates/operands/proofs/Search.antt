@@ -1,5 +1,9 @@
 -- LOOKUPSWITCH: which pair has a key, and the offset that stands with it. Assumes nothing.
-use Rattle.std.proofs.Common.{◌≡◌, ℕ, zero, suc, ◌+◌, ◌*◌, ◌^◌, ◌<◌, ◌≤◌, Bool, true, false, cond, ltb, List, ℤ, sym, refl, ap, ◌∙◌, ap₂, arith, le-ltb, lt-ltb}
+use Rattle.std.proofs.Common.{◌≡◌, ℕ, zero, suc, ◌+◌, ◌*◌, ◌^◌, ◌<◌, ◌≤◌, Bool, true, false, not, cond, ltb, List, length, Option, Some, None, ℤ, sym, refl, ap, ◌∙◌, ap₂, arith, le-ltb, lt-ltb, ltb-false}
+use Rattle.std.specs.Option.{unwrap_or}
+use Rattle.std.specs.List.{position_or_len, range_with_len}
+use Rattle.std.proofs.lemmas.List.FromFn.{length-range_with_len}
+use Rattle.std.proofs.lemmas.List.Sums.{prefix_len-le-length}
 use lib.Dec.{leb-suc-suc}
 use Rattle.values.specs.Integers.{signed, ◌=ᶻ◌}
 use Rattle.rules.specs.Forms.{offset_for}
@@ -7,23 +11,40 @@ use Rattle.rules.specs.Fetch.{u32, s32, aligned, pairs_from}
 use Rattle.operands.specs.Switch.{lookup_offset, key_index}
 use Rattle.operands.proofs.Readings.{word_means}
 use Rattle.operands.proofs.Counts.{negative, not_negative}
-use Rattle.operands.proofs.Pairs.{rest, key_at, rest_none, rest_next}
 
 module _ (code : List ℕ) (key : ℤ) where
-  -- ---- the loop
+  -- ---- the search
 
-  module _ (at n i : ℕ) where
-    pub index_end : n ≤ i → key_index key (rest code at n i) ≡ 0
-    unfolding key_index
-    index_end h = ap (key_index key) (rest_none code at n i h)
+  -- whether the pair at i has the key
+  abbrev pub has_key : ℕ → ℕ → Bool
+  has_key at i = key =ᶻ s32 code (at + 8 * i)
 
-    pub index_here : i < n → (key =ᶻ key_at code at n i) ≡ true → key_index key (rest code at n i) ≡ 0
-    unfolding key_index
-    index_here h t = ap (key_index key) (rest_next code at n i h) ∙ rw t
+  searched : (at n i : ℕ) → position_or_len (has_key at) (range_with_len i n) ≡ key_index key (pairs_from code (at + 8 * i) n)
+  unfolding key_index pairs_from
+  searched at zero i = refl
+  searched at (suc n) i =
+      let next : at + 8 * (i + 1) ≡ at + 8 * i + 8 = omega arith in
+      go (has_key at i) (searched at n (i + 1) ∙ ap (λ (a : ℕ). key_index key (pairs_from code a n)) next)
+    where
+      go : (t : Bool) → position_or_len (has_key at) (range_with_len (i + 1) n) ≡ key_index key (pairs_from code (at + 8 * i + 8) n)
+          → cond (not t) (1 + position_or_len (has_key at) (range_with_len (i + 1) n)) 0 ≡ cond t 0 (suc (key_index key (pairs_from code (at + 8 * i + 8) n)))
+      go true e = refl
+      go false e = omega arith
 
-    pub index_next : i < n → (key =ᶻ key_at code at n i) ≡ false → key_index key (rest code at n i) ≡ suc (key_index key (rest code at n (i + 1)))
-    unfolding key_index
-    index_next h t = ap (key_index key) (rest_next code at n i h) ∙ rw t
+  pub index_found : (at n : ℕ) (r : Option ℕ)
+      → r ≡ cond (ltb (position_or_len (has_key at) (range_with_len 0 n)) (length (range_with_len 0 n))) (Some (position_or_len (has_key at) (range_with_len 0 n))) None
+      → unwrap_or r n ≡ key_index key (pairs_from code at n)
+  index_found at n r e =
+      let all : length (range_with_len 0 n) ≡ n = length-range_with_len 0 n in
+      let here : at + 8 * 0 ≡ at = omega arith in
+      ap (λ (x : Option ℕ). unwrap_or x n) (rw all at e)
+      ∙ go (ltb (position_or_len (has_key at) (range_with_len 0 n)) n) refl (rw all at (prefix_len-le-length (λ i. not (has_key at i)) (range_with_len 0 n)))
+      ∙ searched at n 0 ∙ ap (λ (a : ℕ). key_index key (pairs_from code a n)) here
+    where
+      go : (t : Bool) → ltb (position_or_len (has_key at) (range_with_len 0 n)) n ≡ t → position_or_len (has_key at) (range_with_len 0 n) ≤ n
+          → unwrap_or (cond t (Some (position_or_len (has_key at) (range_with_len 0 n))) None) n ≡ position_or_len (has_key at) (range_with_len 0 n)
+      go true f h = refl
+      go false f h = omega (arith, ltb-false (position_or_len (has_key at) (range_with_len 0 n)) n f)
 
   -- ---- the offset
 

@@ -1,5 +1,5 @@
 -- `read_code_u32` meets its contract. Assumes nothing.
-use Rattle.std.proofs.Common.{◌≡◌, ◌+◌, sym, arith}
+use Rattle.std.proofs.Common.{sym}
 use Rattle.operands.proofs.Readings.{u32_past}
 use Rattle.operands.proofs.bytes.read_code_u32.Goals as goal
 

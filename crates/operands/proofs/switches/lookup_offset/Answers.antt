@@ -1,24 +1,23 @@
 -- `lookup_offset` meets its contract. Assumes nothing.
+use Rattle.std.proofs.Common.{◌+◌, refl, ap, ◌∙◌, arith}
+use Rattle.rules.specs.Fetch.{u32, aligned}
+use Rattle.operands.proofs.Counts.{count_there, count_negative}
 use Rattle.operands.proofs.Search.{no_pairs_read, pair_read, default_read}
 use Rattle.operands.proofs.switches.lookup_offset.Goals as goal
 
-pub returns-then-count-ge2147483648 : goal.returns-then-count-ge2147483648
-returns-then-count-ge2147483648 c = let count = c.before.before in
-    let place = count.before in
-    let a = place.args in
-    no_pairs_read a.code.now a.pc place.after_padding-at.result count.read_code_u32-count.result a.key place.after_padding-at.ensures count.read_code_u32-count.ensures
-    c.if-count-ge2147483648.true c.read_code_u32.result c.read_code_u32.ensures
+pub returns-in_default : goal.returns-in_default
+returns-in_default c = let a = c.args in
+    let w = u32 a.code.now (aligned a.pc + 4) in
+    no_pairs_read a.code.now a.pc (aligned a.pc) w a.key refl refl (count_negative w c.in_default.ensures) c.default.result c.default.ensures
 
 pub returns-then-i-n : goal.returns-then-i-n
-returns-then-i-n c = let count = c.before.before.before.before in
-    let place = count.before in
-    let a = place.args in
-    pair_read a.code.now a.pc place.after_padding-at.result count.read_code_u32-count.result a.key place.after_padding-at.ensures count.read_code_u32-count.ensures
-    c.key_index-i.result c.key_index-i.ensures c.if-count-ge2147483648.false c.read_code_u32-then-i-n.result c.read_code_u32-then-i-n.ensures c.if-i-n.true
+returns-then-i-n c = let a = c.args in
+    let (same, few) = count_there c.in-Some.n (u32 a.code.now (aligned a.pc + 4)) c.in-Some.ensures in
+    pair_read a.code.now a.pc (aligned a.pc) c.in-Some.n a.key refl same c.key_index-i.result (rw c.start.ensures at c.key_index-i.ensures) (rw same few)
+    c.word.result (c.word.ensures ∙ ap (u32 a.code.now) (omega arith)) c.if-i-n.true
 
 pub returns-else-i-n : goal.returns-else-i-n
-returns-else-i-n c = let count = c.before.before.before.before in
-    let place = count.before in
-    let a = place.args in
-    default_read a.code.now a.pc place.after_padding-at.result count.read_code_u32-count.result a.key place.after_padding-at.ensures count.read_code_u32-count.ensures
-    c.key_index-i.result c.key_index-i.ensures c.if-count-ge2147483648.false c.read_code_u32-else-i-n.result c.read_code_u32-else-i-n.ensures c.if-i-n.false
+returns-else-i-n c = let a = c.args in
+    let (same, few) = count_there c.in-Some.n (u32 a.code.now (aligned a.pc + 4)) c.in-Some.ensures in
+    default_read a.code.now a.pc (aligned a.pc) c.in-Some.n a.key refl same c.key_index-i.result (rw c.start.ensures at c.key_index-i.ensures) (rw same few)
+    c.default-else-i-n.result c.default-else-i-n.ensures c.if-i-n.false
