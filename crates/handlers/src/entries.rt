@@ -1,6 +1,8 @@
 // The entries of the lent part: which of them catches what is thrown at an offset.
+#![tactic(auto, using(std::proofs::lemmas::Bool::Decides::nat_tests), unfolding(rules::specs::Handlers::covers, rules::specs::Handlers::takes, rules::specs::Handlers::catches))]
+
 ghost use Rattle.std.specs.Prelude.{◌≡◌};
-ghost use Rattle.rules.specs.Handlers.{start_pc, end_pc, handler_pc, catch_type, covers, takes, catches, handler_at};
+ghost use Rattle.rules.specs.Handlers.{covers, takes, catches, handler_at};
 
 use operands::read_code_u16;
 use rules::Method;
