@@ -48,6 +48,7 @@ impl<'a> Cursor<'a> {
     }
 
     // After the field type that begins here, if one does.
+    #[tactic(auto, unfolding(rules::specs::Descriptor::field_end))]
     pub(crate) fn field(self) -> Option<Cursor<'a>>
         ensures { EndsAt self.entry.descriptor.now (field_end self.entry.descriptor.now self.entry.at) result }
     {

@@ -54,6 +54,7 @@ fn is_three_bytes(a: u8, b: u8, c: u8) -> bool
 }
 
 // How many of three bytes are a character of a name, if one begins there.
+#[tactic(auto, unfolding(rules::specs::Descriptor::character_size))]
 fn character_size(a: u8, b: u8, c: u8) -> Option<usize>
     ensures { result ≡ some_offset (character_size a b c) }
 {
