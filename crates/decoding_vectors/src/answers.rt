@@ -1,7 +1,7 @@
 // What the functions under test answer, in the fields of a vector.
 use const_pool::{Width, load_constant};
 use instructions::opcodes::*;
-use instructions::{Decoded, decode, entry};
+use instructions::{Entry, decode, entry};
 use operands::{lookup_offset, read_code_u8, table_offset};
 use rules::Method;
 
@@ -9,7 +9,7 @@ use rules::Method;
 pub(crate) type Answer = Result<[u64; 3], u32>;
 
 // The entry of the opcode at an offset, of the one after it where it is WIDE.
-fn expected_entry(code: &[u8], pc: u32) -> u64 {
+fn expected_entry(code: &[u8], pc: u32) -> Option<Entry> {
     let at = pc as usize;
     match read_code_u8(code, at) {
         WIDE => entry(read_code_u8(code, at + 1)),
@@ -21,7 +21,7 @@ fn expected_entry(code: &[u8], pc: u32) -> u64 {
 pub(crate) fn instruction(code: &[u8], pc: u32) -> Option<Answer> {
     match decode(code, pc) {
         Err(refusal) => Some(Err(refusal.number())),
-        Ok(d) if d.entry == expected_entry(code, pc) => {
+        Ok(d) if expected_entry(code, pc) == Some(d.entry) => {
             Some(Ok([d.size as u64, d.index as u64, d.constant as u64]))
         }
         Ok(_) => None,

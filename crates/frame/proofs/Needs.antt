@@ -12,8 +12,8 @@ use Rattle.rules.specs.Questions.{Method, popped, pushed, locals_below, constant
 use Rattle.rules.specs.Step.{base}
 use Rattle.rules.proofs.Fetched.{Sound}
 use Rattle.rules.proofs.Rows.{of_row, small, small_row, OneLocal, no_local, one_local, one_named}
-use Rattle.instructions.specs.Table.{entry_of, pops_in, pushes_in, locals_in}
-use Rattle.instructions.proofs.Entries.{entry_bytes}
+use Rattle.instructions.specs.Table.{core_entry}
+use Rattle.instructions.proofs.Entries.{core_entry_lem}
 use Rattle.frame.specs.declared.places.Placed.{Placed}
 use Rattle.frame.specs.Place.{local_there, place_check, answer, place_of}
 use Rattle.std.specs.Prelude.{Ok, Err}
@@ -51,27 +51,27 @@ Says l s i (Ok p) = Stands l s i p.base p.depth
 Says l s i (Err n) = needs_check l s i ≡ Err n
 
 module _ (code : List ℕ) (pc : ℕ) (i : Instruction) (t : Sound code pc i) where
-  pub popped_in : pops_in (entry_of (row_of i.opcode)) ≡ popped i
-  popped_in = rw (t.found, t.ruled) (entry_bytes i.opcode t.row t.found).pops
+  pub popped_in : (core_entry i.opcode).pops ≡ popped i
+  popped_in = rw (core_entry_lem i.opcode t.row t.found, t.ruled)
 
-  pub pushed_in : pushes_in (entry_of (row_of i.opcode)) ≡ pushed i
-  pushed_in = rw (t.found, t.ruled) (entry_bytes i.opcode t.row t.found).pushes
+  pub pushed_in : (core_entry i.opcode).pushes ≡ pushed i
+  pushed_in = rw (core_entry_lem i.opcode t.row t.found, t.ruled)
 
-  pub locals_in_lem : locals_in (entry_of (row_of i.opcode)) ≡ places_of i.rule.locals
-  locals_in_lem = rw (t.found, t.ruled) (entry_bytes i.opcode t.row t.found).locals
+  pub locals_in_lem : (core_entry i.opcode).locals ≡ places_of i.rule.locals
+  locals_in_lem = rw (core_entry_lem i.opcode t.row t.found, t.ruled)
 
   module _ (s : State) where
-    local_below : locals_below s.max_locals i.operand.index i.rule.locals ≡ local_there (locals_in (entry_of (row_of i.opcode))) i.operand.index s.max_locals
+    local_below : locals_below s.max_locals i.operand.index i.rule.locals ≡ local_there (core_entry i.opcode).locals i.operand.index s.max_locals
     local_below =
         let few = of_row (λ r. small r.rule) (λ r. true) (row_of i.opcode) t.row (small_row i.opcode) t.found in
         rw locals_in_lem (one_local_below s.max_locals i.operand.index {ks = i.rule.locals} (rw t.ruled (one_named t.row.rule few)))
 
     module _ (l : Method) where
-      pub needs_by_entry : needs_check l s i ≡ (place_check (entry_of (row_of i.opcode)) i.operand.index s >> pool_asked l i)
+      pub needs_by_entry : needs_check l s i ≡ (place_check (core_entry i.opcode) i.operand.index s >> pool_asked l i)
       unfolding needs_check place_check
       needs_by_entry = rw (popped_in, pushed_in, local_below) (simp in_turn)
 
-      answer_says : (x : Check (Unit {0})) → needs_check l s i ≡ (x >> pool_asked l i) → Says l s i (answer (entry_of (row_of i.opcode)) s x)
+      answer_says : (x : Check (Unit {0})) → needs_check l s i ≡ (x >> pool_asked l i) → Says l s i (answer (core_entry i.opcode) s x)
       unfolding ◌>>◌
       answer_says (Ok u) e = record {
         asked = e;
@@ -80,6 +80,6 @@ module _ (code : List ℕ) (pc : ℕ) (i : Instruction) (t : Sound code pc i) wh
       }
       answer_says (Err n) e = e
 
-      pub place_says : Says l s i (place_of (entry_of (row_of i.opcode)) i.operand.index s)
+      pub place_says : Says l s i (place_of (core_entry i.opcode) i.operand.index s)
       unfolding place_of
       place_says = answer_says _ needs_by_entry

@@ -2,7 +2,7 @@
 ghost use Rattle.std.specs.Prelude.{◌≡◌};
 ghost use Rattle.frame.specs.Place.{local_there, place_of};
 
-use instructions::{locals_in, pops_in, pushes_in};
+use instructions::Entry;
 use rules::{Refusal, State};
 
 // The first place of an instruction on the stack, counted from the first local, and the new depth.
@@ -19,28 +19,28 @@ fn local_there(places: u32, index: u32, limit: u16) -> bool
     if places == 0 {
         return true;
     }
-    index as u64 + places as u64 <= limit as u64
+    u64::from(index) + u64::from(places) <= u64::from(limit)
 }
 
 // Questions 6 to 8 for an instruction with its index.
-pub fn place(entry: u64, index: u32, s: State) -> Result<Placed, Refusal>
+pub fn place(entry: Entry, index: u32, s: State) -> Result<Placed, Refusal>
     ensures { result ≡ place_of entry index s }
 {
-    let pops = pops_in(entry);
-    let pushes = pushes_in(entry);
-    let locals = locals_in(entry);
+    let pops = u32::from(entry.pops);
+    let pushes = u32::from(entry.pushes);
+    let locals = u32::from(entry.locals);
     if s.depth < pops {
         return Err(Refusal::StackUnderflow);
     }
     let left = s.depth - pops;
-    if left as u64 + pushes as u64 > s.max_stack as u64 {
+    if u64::from(left) + u64::from(pushes) > u64::from(s.max_stack) {
         return Err(Refusal::StackOverflow);
     }
     if !local_there(locals, index, s.max_locals) {
         return Err(Refusal::Local);
     }
     Ok(Placed {
-        base: s.max_locals as u32 + left,
+        base: u32::from(s.max_locals) + left,
         depth: left + pushes,
     })
 }

@@ -3,14 +3,14 @@
 use Rattle.std.specs.Prelude.{ℕ, Ok, Err}
 use Rattle.values.specs.Integers.{low}
 use Rattle.rules.specs.Check.{Check}
-use Rattle.rules.specs.Instructions.{row_of}
 use Rattle.rules.specs.Fetch.{Instruction}
+use Rattle.instructions.specs.declared.forms.Entry.{Entry}
 use Rattle.instructions.specs.declared.decoding.Decoded.{Decoded}
-use Rattle.instructions.specs.Table.{entry_of}
+use Rattle.instructions.specs.Table.{core_entry}
 
-abbrev pub instruction_by : ℕ → ℕ → ℕ → ℕ → Decoded
+abbrev pub instruction_by : Entry → ℕ → ℕ → ℕ → Decoded
 instruction_by entry size index constant = record { entry = entry; size = size; index = index; constant = constant }
 
 unfoldable pub decoded : Check Instruction → Check Decoded
-decoded (Ok i) = Ok (instruction_by (entry_of (row_of i.opcode)) i.size i.operand.index (low 32 i.operand.constant))
+decoded (Ok i) = Ok (instruction_by (core_entry i.opcode) i.size i.operand.index (low 32 i.operand.constant))
 decoded (Err r) = Err r

@@ -1,22 +1,41 @@
--- What the step reads of an instruction's row, packed into one number: the table that the step uses. Assumes nothing.
-use Rattle.std.specs.Prelude.{ℕ, ◌+◌, ◌*◌, ◌/◌, ◌%◌, Bool, false, ◌&&◌, ◌||◌, cond, List, [], ◌∷◌, leb, eqb, Some, None, Option}
+-- What the step reads of an instruction's row: the table that the step uses. Assumes nothing.
+use Rattle.std.specs.Prelude.{ℕ, ◌+◌, Bool, false, ◌&&◌, ◌||◌, cond, List, [], ◌∷◌, leb, eqb, Some, None, Option}
+use Rattle.std.specs.Option.{unwrap_or}
 use Rattle.values.specs.Kinds.{places_of}
-use Rattle.rules.specs.Forms.{Row, Format, alone, implied, byte, short, index, index2, index_const, branch, branch4, table, pairs, widened, length_of}
+use Rattle.rules.specs.Forms.{Row, alone, implied, byte, short, index, index2, index_const, branch, branch4, table, pairs, widened}
+use Rattle.rules.specs.Forms as Forms
+use Rattle.rules.specs.Instructions.{row_of}
+use Rattle.instructions.specs.declared.forms.Format.{Format}
+use Rattle.instructions.specs.declared.forms.Entry.{Entry}
 
--- how the operand bytes are read: 1 to 4 is an implied index, 0 to 3; a constant of 16 bits and a branch are read alike
-abbrev pub format_of : Format → ℕ
-format_of alone = 0
-format_of (implied n) = n + 1
-format_of byte = 5
-format_of short = 6
-format_of index = 7
-format_of index2 = 8
-format_of index_const = 9
-format_of branch = 6
-format_of branch4 = 10
-format_of table = 11
-format_of pairs = 12
-format_of widened = 13
+-- how the operand bytes are read: a constant of 16 bits and a branch are read alike
+abbrev pub format_of : Forms.Format → Format
+format_of alone = Format.Alone
+format_of (implied n) = Format.Implied n
+format_of byte = Format.Byte
+format_of short = Format.Short
+format_of index = Format.Index
+format_of index2 = Format.Index2
+format_of index_const = Format.IndexConst
+format_of branch = Format.Short
+format_of branch4 = Format.Branch4
+format_of table = Format.Table
+format_of pairs = Format.Pairs
+format_of widened = Format.Widened
+
+-- the length in bytes; 0 marks a switch and 254 WIDE
+abbrev pub length_in : Format → ℕ
+length_in Format.Alone = 1
+length_in (Format.Implied n) = 1
+length_in Format.Byte = 2
+length_in Format.Short = 3
+length_in Format.Index = 2
+length_in Format.Index2 = 3
+length_in Format.IndexConst = 3
+length_in Format.Branch4 = 5
+length_in Format.Table = 0
+length_in Format.Pairs = 0
+length_in Format.Widened = 254
 
 abbrev pub between : ℕ → ℕ → ℕ → Bool
 between a b n = leb a n && leb n b
@@ -34,33 +53,18 @@ shared_of r =
     (cond (between 54 78 n) (53 + places_of r.rule.locals)
     (cond (eqb n 17) 16 (cond (eqb n 19) 18 (cond (eqb n 200) 167 n))))
 
--- the bytes of an entry, from the left: the format, the shared opcode, the places of the local; the length, the places popped, the places pushed
-abbrev pub packed : ℕ → ℕ → ℕ → ℕ → ℕ → ℕ → ℕ
-packed format shared locals length popped pushed =
-    0x10000000000 * format + 0x100000000 * shared + 0x1000000 * locals + 0x10000 * length + 0x100 * popped + pushed
+abbrev pub entry_by : Format → ℕ → ℕ → ℕ → ℕ → Entry
+entry_by format shared locals pops pushes = record { format = format; shared = shared; locals = locals; pops = pops; pushes = pushes }
 
--- an opcode outside the core has the length 255
-unfoldable pub entry_of : Option Row → ℕ
-entry_of None = packed 0 0 0 255 0 0
-entry_of (Some r) =
-    packed (format_of r.format) (shared_of r) (places_of r.rule.locals) (length_of r.format) (places_of r.rule.takes) (places_of r.rule.gives)
+-- the entry of a row
+abbrev pub entry_for : Row → Entry
+entry_for r = entry_by (format_of r.format) (shared_of r) (places_of r.rule.locals) (places_of r.rule.takes) (places_of r.rule.gives)
 
--- the bytes read back
+-- an opcode outside the core has none
+unfoldable pub entry_of : Option Row → Option Entry
+entry_of None = None
+entry_of (Some r) = Some (entry_for r)
 
-abbrev pub format_in : ℕ → ℕ
-format_in entry = entry / 0x10000000000 % 0x100
-
-abbrev pub shared_in : ℕ → ℕ
-shared_in entry = entry / 0x100000000 % 0x100
-
-abbrev pub locals_in : ℕ → ℕ
-locals_in entry = entry / 0x1000000 % 0x100
-
-abbrev pub length_in : ℕ → ℕ
-length_in entry = entry / 0x10000 % 0x100
-
-abbrev pub pops_in : ℕ → ℕ
-pops_in entry = entry / 0x100 % 0x100
-
-abbrev pub pushes_in : ℕ → ℕ
-pushes_in entry = entry % 0x100
+-- the entry of an opcode of the core; what an instruction is fetched by is one
+abbrev pub core_entry : ℕ → Entry
+core_entry n = unwrap_or (entry_of (row_of n)) (entry_by Format.Alone 0 0 0 0)

@@ -1,11 +1,13 @@
 // Questions 4 and 5: the instruction at an offset of the code.
-ghost use Rattle.std.specs.Prelude.{◌≡◌, ◌+◌, ◌<◌};
+ghost use Rattle.std.specs.Prelude.{◌≡◌, ◌<◌};
 ghost use Rattle.rules.specs.Fetch.{fetched, widens, wide_check};
+ghost use Rattle.rules.specs.Forms.{Row};
 ghost use Rattle.instructions.specs.Decode.{decoded};
-ghost use Rattle.instructions.specs.Stages.{fields_of, sized_of, switch_decoded};
+ghost use Rattle.instructions.specs.Stages.{core_of, sized_of, fixed_of, switch_decoded, decoded_by};
 
+use crate::forms::{Entry, Format};
 use crate::opcodes::*;
-use crate::table::*;
+use crate::table::entry;
 use operands::{
     Switch, lookup_switch, read_code_i8, read_code_i16, read_code_u8, read_code_u16, read_code_u32,
     table_switch,
@@ -15,65 +17,31 @@ use rules::Refusal;
 // An instruction: its entry in the table, its length in bytes, and its operands.
 #[derive(Clone, Copy)]
 pub struct Decoded {
-    pub entry: u64,
+    pub entry: Entry,
     pub size: usize,
     pub index: u32,
     pub constant: u32,
 }
 
-// What the operand bytes say: an index, and a constant as a word.
-#[derive(Clone, Copy)]
-pub(crate) struct Fields {
-    pub index: u32,
-    pub constant: u32,
-}
-
-// The operands of an instruction of fixed length, by the format's number.
-fn operand_fields(code: &[u8], pc: u32, format: u32) -> Fields
-    ensures { result ≡ fields_of code.now pc format }
+// Question 4: the entry of an opcode of the core.
+#[inline(always)]
+fn core(opcode: u8) -> Result<Entry, Refusal>
+    ensures { result ≡ core_of opcode }
 {
-    let at = pc as usize;
-    if format == FORMAT_ALONE {
-        return Fields {
-            index: 0,
-            constant: 0,
-        };
-    }
-    if format < FORMAT_BYTE {
-        return Fields {
-            index: format - FORMAT_IMPLIED,
-            constant: 0,
-        };
-    }
-    if format == FORMAT_BYTE {
-        let constant = read_code_i8(code, at + 1);
-        return Fields { index: 0, constant };
-    }
-    if format == FORMAT_SHORT {
-        let constant = read_code_i16(code, at + 1);
-        return Fields { index: 0, constant };
-    }
-    if format == FORMAT_INDEX {
-        let index = read_code_u8(code, at + 1) as u32;
-        return Fields { index, constant: 0 };
-    }
-    if format == FORMAT_INDEX2 {
-        let index = read_code_u16(code, at + 1) as u32;
-        return Fields { index, constant: 0 };
-    }
-    if format == FORMAT_INDEX_CONST {
-        let index = read_code_u8(code, at + 1) as u32;
-        let constant = read_code_i8(code, at + 2);
-        return Fields { index, constant };
-    }
-    let constant = read_code_u32(code, at + 1);
-    Fields { index: 0, constant }
+    entry(opcode).ok_or(Refusal::Opcode)
 }
 
-// An instruction of a length in bytes, if they are there.
-fn sized(code: &[u8], pc: u32, entry: u64, size: usize, fields: Fields) -> Result<Decoded, Refusal>
+// Question 5 for an instruction of a length in bytes.
+fn sized(
+    code: &[u8],
+    pc: u32,
+    entry: Entry,
+    size: usize,
+    index: u32,
+    constant: u32,
+) -> Result<Decoded, Refusal>
     requires { size < 512 }
-    ensures { result ≡ sized_of code.now pc entry size fields }
+    ensures { result ≡ sized_of code.now pc entry size index constant }
 {
     if code.len() < pc as usize + size {
         return Err(Refusal::OperandBytes);
@@ -81,31 +49,32 @@ fn sized(code: &[u8], pc: u32, entry: u64, size: usize, fields: Fields) -> Resul
     Ok(Decoded {
         entry,
         size,
-        index: fields.index,
-        constant: fields.constant,
+        index,
+        constant,
     })
+}
+
+// Question 5 for an instruction of the length of its format.
+fn fixed(code: &[u8], pc: u32, entry: Entry, index: u32, constant: u32) -> Result<Decoded, Refusal>
+    ensures { result ≡ fixed_of code.now pc entry index constant }
+{
+    let size = usize::from(entry.format.length());
+    sized(code, pc, entry, size, index, constant)
 }
 
 // Whether WIDE takes an opcode.
 fn is_widened(opcode: u8) -> bool
     ensures { result ≡ widens opcode }
 {
-    if opcode < ILOAD {
-        return false;
+    match opcode {
+        ILOAD..=ALOAD => true,
+        ISTORE..=ASTORE => true,
+        IINC => true,
+        _ => false,
     }
-    if opcode <= ALOAD {
-        return true;
-    }
-    if opcode < ISTORE {
-        return false;
-    }
-    if opcode <= ASTORE {
-        return true;
-    }
-    opcode == IINC
 }
 
-// WIDE: an instruction with its operands at twice the size, and with WIDE itself twice as long.
+// WIDE: an instruction with its operands at twice the size.
 fn wide(code: &[u8], pc: u32) -> Result<Decoded, Refusal>
     ensures { result ≡ decoded (wide_check code.now pc) }
 {
@@ -117,18 +86,16 @@ fn wide(code: &[u8], pc: u32) -> Result<Decoded, Refusal>
     if !is_widened(opcode) {
         return Err(Refusal::Opcode);
     }
-    let index = read_code_u16(code, at + 2) as u32;
-    let row = entry(opcode);
-    let size = 2 * length_in(row) as usize;
+    let entry = core(opcode)?;
+    let index = u32::from(read_code_u16(code, at + 2));
     if opcode == IINC {
-        let constant = read_code_i16(code, at + 4);
-        return sized(code, pc, row, size, Fields { index, constant });
+        return sized(code, pc, entry, 6, index, read_code_i16(code, at + 4));
     }
-    sized(code, pc, row, size, Fields { index, constant: 0 })
+    sized(code, pc, entry, 4, index, 0)
 }
 
 // An accepted switch as an instruction.
-fn switched(entry: u64, asked: Result<Switch, Refusal>) -> Result<Decoded, Refusal>
+fn switched(entry: Entry, asked: Result<Switch, Refusal>) -> Result<Decoded, Refusal>
     ensures { result ≡ switch_decoded entry asked }
 {
     let switch = asked?;
@@ -140,25 +107,33 @@ fn switched(entry: u64, asked: Result<Switch, Refusal>) -> Result<Decoded, Refus
     })
 }
 
+// The instruction at an offset, by its entry.
+fn by_entry(code: &[u8], pc: u32, entry: Entry) -> Result<Decoded, Refusal>
+    ensures { (row : Row) → result ≡ decoded_by code.now pc row entry entry.format }
+{
+    let at = pc as usize + 1;
+    match entry.format {
+        Format::Alone => fixed(code, pc, entry, 0, 0),
+        Format::Implied(index) => fixed(code, pc, entry, u32::from(index), 0),
+        Format::Byte => fixed(code, pc, entry, 0, read_code_i8(code, at)),
+        Format::Short => fixed(code, pc, entry, 0, read_code_i16(code, at)),
+        Format::Index => fixed(code, pc, entry, u32::from(read_code_u8(code, at)), 0),
+        Format::Index2 => fixed(code, pc, entry, u32::from(read_code_u16(code, at)), 0),
+        Format::IndexConst => {
+            let index = u32::from(read_code_u8(code, at));
+            fixed(code, pc, entry, index, read_code_i8(code, at + 1))
+        }
+        Format::Branch4 => fixed(code, pc, entry, 0, read_code_u32(code, at)),
+        Format::Table => switched(entry, table_switch(code, pc)),
+        Format::Pairs => switched(entry, lookup_switch(code, pc)),
+        Format::Widened => wide(code, pc),
+    }
+}
+
 // The instruction at an offset.
 pub fn decode(code: &[u8], pc: u32) -> Result<Decoded, Refusal>
     ensures { result ≡ decoded (fetched code.now pc) }
 {
-    let row = entry(read_code_u8(code, pc as usize));
-    let length = length_in(row);
-    let format = format_in(row);
-    if length == LENGTH_NONE {
-        return Err(Refusal::Opcode);
-    }
-    if length == LENGTH_WIDE {
-        return wide(code, pc);
-    }
-    if length == LENGTH_SWITCH {
-        if format == FORMAT_TABLE {
-            return switched(row, table_switch(code, pc));
-        }
-        return switched(row, lookup_switch(code, pc));
-    }
-    let fields = operand_fields(code, pc, format);
-    sized(code, pc, row, length as usize, fields)
+    let entry = core(read_code_u8(code, pc as usize))?;
+    by_entry(code, pc, entry)
 }

@@ -2,10 +2,12 @@
 #![tactic(auto)]
 
 mod decoding;
+mod forms;
 pub mod opcodes;
 mod page;
 mod table;
 
 pub use decoding::{Decoded, decode};
+pub use forms::{Entry, Format};
 pub use page::opcode_line;
-pub use table::{entry, locals_in, pops_in, pushes_in, shared_in};
+pub use table::entry;

@@ -2,18 +2,28 @@
 ghost use Rattle.std.specs.Prelude.{◌≡◌};
 ghost use Rattle.rules.specs.OpcodePage.{line_of};
 
-use crate::table::*;
+use crate::table::entry;
 use rules::OpcodeLine;
+
+// The length that marks an opcode outside the core.
+const OUTSIDE: u32 = 255;
 
 // The line of an opcode, from the entry that a step reads.
 pub fn opcode_line(opcode: u8) -> OpcodeLine
     ensures { result ≡ line_of opcode }
 {
-    let row = entry(opcode);
-    OpcodeLine {
-        opcode,
-        length: length_in(row),
-        popped: pops_in(row),
-        pushed: pushes_in(row),
+    match entry(opcode) {
+        None => OpcodeLine {
+            opcode,
+            length: OUTSIDE,
+            popped: 0,
+            pushed: 0,
+        },
+        Some(row) => OpcodeLine {
+            opcode,
+            length: u32::from(row.format.length()),
+            popped: u32::from(row.pops),
+            pushed: u32::from(row.pushes),
+        },
     }
 }

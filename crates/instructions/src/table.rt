@@ -1,247 +1,198 @@
-// The table of the instructions: one number an opcode, which a step reads once, and twice for WIDE. Its bytes are, from the left, the format, the opcode that
-// instructions of the same effect share, the places of the local, and then the line of the page of opcodes: the length in bytes (00 a switch, FE WIDE, FF an opcode
-// outside the core), the places popped and the places pushed.
+// The table of the instructions: an entry an opcode, which a step reads once, and twice for WIDE.
 ghost use Rattle.std.specs.Prelude.{◌≡◌};
 ghost use Rattle.rules.specs.Instructions.{row_of};
-ghost use Rattle.instructions.specs.Table.{entry_of, format_in, shared_in, locals_in, length_in, pops_in, pushes_in};
+ghost use Rattle.instructions.specs.Table.{entry_of, entry_by};
 
+use crate::forms::Entry;
+use crate::forms::Format::{self, *};
 use crate::opcodes::*;
 
-// Lengths that stand for more: a switch has its own, WIDE that of what it widens, an opcode outside the core none.
-pub(crate) const LENGTH_SWITCH: u32 = 0;
-
-pub(crate) const LENGTH_WIDE: u32 = 0xfe;
-
-pub(crate) const LENGTH_NONE: u32 = 0xff;
-
-// How the operand bytes are read; FORMAT_IMPLIED to FORMAT_IMPLIED + 3 is an implied index, 0 to 3. A branch of 16 bits is read as a short.
-pub(crate) const FORMAT_ALONE: u32 = 0;
-
-pub(crate) const FORMAT_IMPLIED: u32 = 1;
-
-pub(crate) const FORMAT_BYTE: u32 = 5;
-
-pub(crate) const FORMAT_SHORT: u32 = 6;
-
-pub(crate) const FORMAT_INDEX: u32 = 7;
-
-pub(crate) const FORMAT_INDEX2: u32 = 8;
-
-pub(crate) const FORMAT_INDEX_CONST: u32 = 9;
-
-pub(crate) const FORMAT_TABLE: u32 = 11;
-
-// The format.
-pub(crate) fn format_in(entry: u64) -> u32
-    ensures { result ≡ format_in entry }
+// An entry in one line.
+fn row(format: Format, shared: u8, locals: u8, pops: u8, pushes: u8) -> Entry
+    ensures { result ≡ entry_by format shared locals pops pushes }
 {
-    (entry / 0x100_0000_0000 % 0x100) as u32
+    Entry {
+        format,
+        shared,
+        locals,
+        pops,
+        pushes,
+    }
 }
 
-// The opcode that instructions of the same effect share.
-pub fn shared_in(entry: u64) -> u8
-    ensures { result ≡ shared_in entry }
-{
-    (entry / 0x1_0000_0000 % 0x100) as u8
-}
-
-// The places of the local.
-pub fn locals_in(entry: u64) -> u32
-    ensures { result ≡ locals_in entry }
-{
-    (entry / 0x100_0000 % 0x100) as u32
-}
-
-// The length in bytes.
-pub(crate) fn length_in(entry: u64) -> u32
-    ensures { result ≡ length_in entry }
-{
-    (entry / 0x1_0000 % 0x100) as u32
-}
-
-// The places popped.
-pub fn pops_in(entry: u64) -> u32
-    ensures { result ≡ pops_in entry }
-{
-    (entry / 0x100 % 0x100) as u32
-}
-
-// The places pushed.
-pub fn pushes_in(entry: u64) -> u32
-    ensures { result ≡ pushes_in entry }
-{
-    (entry % 0x100) as u32
-}
-
-// The entry of an opcode.
-pub fn entry(opcode: u8) -> u64
+// The entry of an opcode: its format, its shared opcode, and the places of its local, those popped and those pushed. An opcode outside the core has none.
+// inlined: as a call a step of the int loop has 154.1 machine instructions, and so 124.9
+#[inline(always)]
+#[tactic(auto, unfolding(rules::specs::Instructions::row_of, crate::specs::Table::entry_of))]
+pub fn entry(opcode: u8) -> Option<Entry>
     ensures { result ≡ entry_of (row_of opcode) }
 {
-    match opcode {
-        NOP => 0x00_00_00_01_00_00,
-        ACONST_NULL => 0x00_01_00_01_00_01,
-        ICONST_M1 => 0x00_02_00_01_00_01,
-        ICONST_0 => 0x00_03_00_01_00_01,
-        ICONST_1 => 0x00_04_00_01_00_01,
-        ICONST_2 => 0x00_05_00_01_00_01,
-        ICONST_3 => 0x00_06_00_01_00_01,
-        ICONST_4 => 0x00_07_00_01_00_01,
-        ICONST_5 => 0x00_08_00_01_00_01,
-        LCONST_0 => 0x00_09_00_01_00_02,
-        LCONST_1 => 0x00_0a_00_01_00_02,
-        FCONST_0 => 0x00_0b_00_01_00_01,
-        FCONST_1 => 0x00_0c_00_01_00_01,
-        FCONST_2 => 0x00_0d_00_01_00_01,
-        DCONST_0 => 0x00_0e_00_01_00_02,
-        DCONST_1 => 0x00_0f_00_01_00_02,
-        BIPUSH => 0x05_10_00_02_00_01,
-        SIPUSH => 0x06_10_00_03_00_01,
-        LDC => 0x07_12_00_02_00_01,
-        LDC_W => 0x08_12_00_03_00_01,
-        LDC2_W => 0x08_14_00_03_00_02,
-        ILOAD => 0x07_15_01_02_00_01,
-        LLOAD => 0x07_16_02_02_00_02,
-        FLOAD => 0x07_15_01_02_00_01,
-        DLOAD => 0x07_16_02_02_00_02,
-        ALOAD => 0x07_15_01_02_00_01,
-        ILOAD_0 => 0x01_15_01_01_00_01,
-        ILOAD_1 => 0x02_15_01_01_00_01,
-        ILOAD_2 => 0x03_15_01_01_00_01,
-        ILOAD_3 => 0x04_15_01_01_00_01,
-        LLOAD_0 => 0x01_16_02_01_00_02,
-        LLOAD_1 => 0x02_16_02_01_00_02,
-        LLOAD_2 => 0x03_16_02_01_00_02,
-        LLOAD_3 => 0x04_16_02_01_00_02,
-        FLOAD_0 => 0x01_15_01_01_00_01,
-        FLOAD_1 => 0x02_15_01_01_00_01,
-        FLOAD_2 => 0x03_15_01_01_00_01,
-        FLOAD_3 => 0x04_15_01_01_00_01,
-        DLOAD_0 => 0x01_16_02_01_00_02,
-        DLOAD_1 => 0x02_16_02_01_00_02,
-        DLOAD_2 => 0x03_16_02_01_00_02,
-        DLOAD_3 => 0x04_16_02_01_00_02,
-        ALOAD_0 => 0x01_15_01_01_00_01,
-        ALOAD_1 => 0x02_15_01_01_00_01,
-        ALOAD_2 => 0x03_15_01_01_00_01,
-        ALOAD_3 => 0x04_15_01_01_00_01,
-        ISTORE => 0x07_36_01_02_01_00,
-        LSTORE => 0x07_37_02_02_02_00,
-        FSTORE => 0x07_36_01_02_01_00,
-        DSTORE => 0x07_37_02_02_02_00,
-        ASTORE => 0x07_36_01_02_01_00,
-        ISTORE_0 => 0x01_36_01_01_01_00,
-        ISTORE_1 => 0x02_36_01_01_01_00,
-        ISTORE_2 => 0x03_36_01_01_01_00,
-        ISTORE_3 => 0x04_36_01_01_01_00,
-        LSTORE_0 => 0x01_37_02_01_02_00,
-        LSTORE_1 => 0x02_37_02_01_02_00,
-        LSTORE_2 => 0x03_37_02_01_02_00,
-        LSTORE_3 => 0x04_37_02_01_02_00,
-        FSTORE_0 => 0x01_36_01_01_01_00,
-        FSTORE_1 => 0x02_36_01_01_01_00,
-        FSTORE_2 => 0x03_36_01_01_01_00,
-        FSTORE_3 => 0x04_36_01_01_01_00,
-        DSTORE_0 => 0x01_37_02_01_02_00,
-        DSTORE_1 => 0x02_37_02_01_02_00,
-        DSTORE_2 => 0x03_37_02_01_02_00,
-        DSTORE_3 => 0x04_37_02_01_02_00,
-        ASTORE_0 => 0x01_36_01_01_01_00,
-        ASTORE_1 => 0x02_36_01_01_01_00,
-        ASTORE_2 => 0x03_36_01_01_01_00,
-        ASTORE_3 => 0x04_36_01_01_01_00,
-        POP => 0x00_57_00_01_01_00,
-        POP2 => 0x00_58_00_01_02_00,
-        DUP => 0x00_59_00_01_01_02,
-        DUP_X1 => 0x00_5a_00_01_02_03,
-        DUP_X2 => 0x00_5b_00_01_03_04,
-        DUP2 => 0x00_5c_00_01_02_04,
-        DUP2_X1 => 0x00_5d_00_01_03_05,
-        DUP2_X2 => 0x00_5e_00_01_04_06,
-        SWAP => 0x00_5f_00_01_02_02,
-        IADD => 0x00_60_00_01_02_01,
-        LADD => 0x00_61_00_01_04_02,
-        FADD => 0x00_62_00_01_02_01,
-        DADD => 0x00_63_00_01_04_02,
-        ISUB => 0x00_64_00_01_02_01,
-        LSUB => 0x00_65_00_01_04_02,
-        FSUB => 0x00_66_00_01_02_01,
-        DSUB => 0x00_67_00_01_04_02,
-        IMUL => 0x00_68_00_01_02_01,
-        LMUL => 0x00_69_00_01_04_02,
-        FMUL => 0x00_6a_00_01_02_01,
-        DMUL => 0x00_6b_00_01_04_02,
-        IDIV => 0x00_6c_00_01_02_01,
-        LDIV => 0x00_6d_00_01_04_02,
-        FDIV => 0x00_6e_00_01_02_01,
-        DDIV => 0x00_6f_00_01_04_02,
-        IREM => 0x00_70_00_01_02_01,
-        LREM => 0x00_71_00_01_04_02,
-        FREM => 0x00_72_00_01_02_01,
-        DREM => 0x00_73_00_01_04_02,
-        INEG => 0x00_74_00_01_01_01,
-        LNEG => 0x00_75_00_01_02_02,
-        FNEG => 0x00_76_00_01_01_01,
-        DNEG => 0x00_77_00_01_02_02,
-        ISHL => 0x00_78_00_01_02_01,
-        LSHL => 0x00_79_00_01_03_02,
-        ISHR => 0x00_7a_00_01_02_01,
-        LSHR => 0x00_7b_00_01_03_02,
-        IUSHR => 0x00_7c_00_01_02_01,
-        LUSHR => 0x00_7d_00_01_03_02,
-        IAND => 0x00_7e_00_01_02_01,
-        LAND => 0x00_7f_00_01_04_02,
-        IOR => 0x00_80_00_01_02_01,
-        LOR => 0x00_81_00_01_04_02,
-        IXOR => 0x00_82_00_01_02_01,
-        LXOR => 0x00_83_00_01_04_02,
-        IINC => 0x09_84_01_03_00_00,
-        I2L => 0x00_85_00_01_01_02,
-        I2F => 0x00_86_00_01_01_01,
-        I2D => 0x00_87_00_01_01_02,
-        L2I => 0x00_88_00_01_02_01,
-        L2F => 0x00_89_00_01_02_01,
-        L2D => 0x00_8a_00_01_02_02,
-        F2I => 0x00_8b_00_01_01_01,
-        F2L => 0x00_8c_00_01_01_02,
-        F2D => 0x00_8d_00_01_01_02,
-        D2I => 0x00_8e_00_01_02_01,
-        D2L => 0x00_8f_00_01_02_02,
-        D2F => 0x00_90_00_01_02_01,
-        I2B => 0x00_91_00_01_01_01,
-        I2C => 0x00_92_00_01_01_01,
-        I2S => 0x00_93_00_01_01_01,
-        LCMP => 0x00_94_00_01_04_01,
-        FCMPL => 0x00_95_00_01_02_01,
-        FCMPG => 0x00_96_00_01_02_01,
-        DCMPL => 0x00_97_00_01_04_01,
-        DCMPG => 0x00_98_00_01_04_01,
-        IFEQ => 0x06_99_00_03_01_00,
-        IFNE => 0x06_9a_00_03_01_00,
-        IFLT => 0x06_9b_00_03_01_00,
-        IFGE => 0x06_9c_00_03_01_00,
-        IFGT => 0x06_9d_00_03_01_00,
-        IFLE => 0x06_9e_00_03_01_00,
-        IF_ICMPEQ => 0x06_9f_00_03_02_00,
-        IF_ICMPNE => 0x06_a0_00_03_02_00,
-        IF_ICMPLT => 0x06_a1_00_03_02_00,
-        IF_ICMPGE => 0x06_a2_00_03_02_00,
-        IF_ICMPGT => 0x06_a3_00_03_02_00,
-        IF_ICMPLE => 0x06_a4_00_03_02_00,
-        IF_ACMPEQ => 0x06_a5_00_03_02_00,
-        IF_ACMPNE => 0x06_a6_00_03_02_00,
-        GOTO => 0x06_a7_00_03_00_00,
-        TABLESWITCH => 0x0b_aa_00_00_01_00,
-        LOOKUPSWITCH => 0x0c_ab_00_00_01_00,
-        IRETURN => 0x00_ac_00_01_01_00,
-        LRETURN => 0x00_ad_00_01_02_00,
-        FRETURN => 0x00_ae_00_01_01_00,
-        DRETURN => 0x00_af_00_01_02_00,
-        ARETURN => 0x00_b0_00_01_01_00,
-        RETURN => 0x00_b1_00_01_00_00,
-        WIDE => 0x0d_c4_00_fe_00_00,
-        IFNULL => 0x06_c6_00_03_01_00,
-        IFNONNULL => 0x06_c7_00_03_01_00,
-        GOTO_W => 0x0a_a7_00_05_00_00,
-        _ => 0x00_00_00_ff_00_00,
-    }
+    let found = match opcode {
+        NOP => row(Alone, NOP, 0, 0, 0),
+        ACONST_NULL => row(Alone, ACONST_NULL, 0, 0, 1),
+        ICONST_M1 => row(Alone, ICONST_M1, 0, 0, 1),
+        ICONST_0 => row(Alone, ICONST_0, 0, 0, 1),
+        ICONST_1 => row(Alone, ICONST_1, 0, 0, 1),
+        ICONST_2 => row(Alone, ICONST_2, 0, 0, 1),
+        ICONST_3 => row(Alone, ICONST_3, 0, 0, 1),
+        ICONST_4 => row(Alone, ICONST_4, 0, 0, 1),
+        ICONST_5 => row(Alone, ICONST_5, 0, 0, 1),
+        LCONST_0 => row(Alone, LCONST_0, 0, 0, 2),
+        LCONST_1 => row(Alone, LCONST_1, 0, 0, 2),
+        FCONST_0 => row(Alone, FCONST_0, 0, 0, 1),
+        FCONST_1 => row(Alone, FCONST_1, 0, 0, 1),
+        FCONST_2 => row(Alone, FCONST_2, 0, 0, 1),
+        DCONST_0 => row(Alone, DCONST_0, 0, 0, 2),
+        DCONST_1 => row(Alone, DCONST_1, 0, 0, 2),
+        BIPUSH => row(Byte, BIPUSH, 0, 0, 1),
+        SIPUSH => row(Short, BIPUSH, 0, 0, 1),
+        LDC => row(Index, LDC, 0, 0, 1),
+        LDC_W => row(Index2, LDC, 0, 0, 1),
+        LDC2_W => row(Index2, LDC2_W, 0, 0, 2),
+        ILOAD => row(Index, ILOAD, 1, 0, 1),
+        LLOAD => row(Index, LLOAD, 2, 0, 2),
+        FLOAD => row(Index, ILOAD, 1, 0, 1),
+        DLOAD => row(Index, LLOAD, 2, 0, 2),
+        ALOAD => row(Index, ILOAD, 1, 0, 1),
+        ILOAD_0 => row(Implied(0), ILOAD, 1, 0, 1),
+        ILOAD_1 => row(Implied(1), ILOAD, 1, 0, 1),
+        ILOAD_2 => row(Implied(2), ILOAD, 1, 0, 1),
+        ILOAD_3 => row(Implied(3), ILOAD, 1, 0, 1),
+        LLOAD_0 => row(Implied(0), LLOAD, 2, 0, 2),
+        LLOAD_1 => row(Implied(1), LLOAD, 2, 0, 2),
+        LLOAD_2 => row(Implied(2), LLOAD, 2, 0, 2),
+        LLOAD_3 => row(Implied(3), LLOAD, 2, 0, 2),
+        FLOAD_0 => row(Implied(0), ILOAD, 1, 0, 1),
+        FLOAD_1 => row(Implied(1), ILOAD, 1, 0, 1),
+        FLOAD_2 => row(Implied(2), ILOAD, 1, 0, 1),
+        FLOAD_3 => row(Implied(3), ILOAD, 1, 0, 1),
+        DLOAD_0 => row(Implied(0), LLOAD, 2, 0, 2),
+        DLOAD_1 => row(Implied(1), LLOAD, 2, 0, 2),
+        DLOAD_2 => row(Implied(2), LLOAD, 2, 0, 2),
+        DLOAD_3 => row(Implied(3), LLOAD, 2, 0, 2),
+        ALOAD_0 => row(Implied(0), ILOAD, 1, 0, 1),
+        ALOAD_1 => row(Implied(1), ILOAD, 1, 0, 1),
+        ALOAD_2 => row(Implied(2), ILOAD, 1, 0, 1),
+        ALOAD_3 => row(Implied(3), ILOAD, 1, 0, 1),
+        ISTORE => row(Index, ISTORE, 1, 1, 0),
+        LSTORE => row(Index, LSTORE, 2, 2, 0),
+        FSTORE => row(Index, ISTORE, 1, 1, 0),
+        DSTORE => row(Index, LSTORE, 2, 2, 0),
+        ASTORE => row(Index, ISTORE, 1, 1, 0),
+        ISTORE_0 => row(Implied(0), ISTORE, 1, 1, 0),
+        ISTORE_1 => row(Implied(1), ISTORE, 1, 1, 0),
+        ISTORE_2 => row(Implied(2), ISTORE, 1, 1, 0),
+        ISTORE_3 => row(Implied(3), ISTORE, 1, 1, 0),
+        LSTORE_0 => row(Implied(0), LSTORE, 2, 2, 0),
+        LSTORE_1 => row(Implied(1), LSTORE, 2, 2, 0),
+        LSTORE_2 => row(Implied(2), LSTORE, 2, 2, 0),
+        LSTORE_3 => row(Implied(3), LSTORE, 2, 2, 0),
+        FSTORE_0 => row(Implied(0), ISTORE, 1, 1, 0),
+        FSTORE_1 => row(Implied(1), ISTORE, 1, 1, 0),
+        FSTORE_2 => row(Implied(2), ISTORE, 1, 1, 0),
+        FSTORE_3 => row(Implied(3), ISTORE, 1, 1, 0),
+        DSTORE_0 => row(Implied(0), LSTORE, 2, 2, 0),
+        DSTORE_1 => row(Implied(1), LSTORE, 2, 2, 0),
+        DSTORE_2 => row(Implied(2), LSTORE, 2, 2, 0),
+        DSTORE_3 => row(Implied(3), LSTORE, 2, 2, 0),
+        ASTORE_0 => row(Implied(0), ISTORE, 1, 1, 0),
+        ASTORE_1 => row(Implied(1), ISTORE, 1, 1, 0),
+        ASTORE_2 => row(Implied(2), ISTORE, 1, 1, 0),
+        ASTORE_3 => row(Implied(3), ISTORE, 1, 1, 0),
+        POP => row(Alone, POP, 0, 1, 0),
+        POP2 => row(Alone, POP2, 0, 2, 0),
+        DUP => row(Alone, DUP, 0, 1, 2),
+        DUP_X1 => row(Alone, DUP_X1, 0, 2, 3),
+        DUP_X2 => row(Alone, DUP_X2, 0, 3, 4),
+        DUP2 => row(Alone, DUP2, 0, 2, 4),
+        DUP2_X1 => row(Alone, DUP2_X1, 0, 3, 5),
+        DUP2_X2 => row(Alone, DUP2_X2, 0, 4, 6),
+        SWAP => row(Alone, SWAP, 0, 2, 2),
+        IADD => row(Alone, IADD, 0, 2, 1),
+        LADD => row(Alone, LADD, 0, 4, 2),
+        FADD => row(Alone, FADD, 0, 2, 1),
+        DADD => row(Alone, DADD, 0, 4, 2),
+        ISUB => row(Alone, ISUB, 0, 2, 1),
+        LSUB => row(Alone, LSUB, 0, 4, 2),
+        FSUB => row(Alone, FSUB, 0, 2, 1),
+        DSUB => row(Alone, DSUB, 0, 4, 2),
+        IMUL => row(Alone, IMUL, 0, 2, 1),
+        LMUL => row(Alone, LMUL, 0, 4, 2),
+        FMUL => row(Alone, FMUL, 0, 2, 1),
+        DMUL => row(Alone, DMUL, 0, 4, 2),
+        IDIV => row(Alone, IDIV, 0, 2, 1),
+        LDIV => row(Alone, LDIV, 0, 4, 2),
+        FDIV => row(Alone, FDIV, 0, 2, 1),
+        DDIV => row(Alone, DDIV, 0, 4, 2),
+        IREM => row(Alone, IREM, 0, 2, 1),
+        LREM => row(Alone, LREM, 0, 4, 2),
+        FREM => row(Alone, FREM, 0, 2, 1),
+        DREM => row(Alone, DREM, 0, 4, 2),
+        INEG => row(Alone, INEG, 0, 1, 1),
+        LNEG => row(Alone, LNEG, 0, 2, 2),
+        FNEG => row(Alone, FNEG, 0, 1, 1),
+        DNEG => row(Alone, DNEG, 0, 2, 2),
+        ISHL => row(Alone, ISHL, 0, 2, 1),
+        LSHL => row(Alone, LSHL, 0, 3, 2),
+        ISHR => row(Alone, ISHR, 0, 2, 1),
+        LSHR => row(Alone, LSHR, 0, 3, 2),
+        IUSHR => row(Alone, IUSHR, 0, 2, 1),
+        LUSHR => row(Alone, LUSHR, 0, 3, 2),
+        IAND => row(Alone, IAND, 0, 2, 1),
+        LAND => row(Alone, LAND, 0, 4, 2),
+        IOR => row(Alone, IOR, 0, 2, 1),
+        LOR => row(Alone, LOR, 0, 4, 2),
+        IXOR => row(Alone, IXOR, 0, 2, 1),
+        LXOR => row(Alone, LXOR, 0, 4, 2),
+        IINC => row(IndexConst, IINC, 1, 0, 0),
+        I2L => row(Alone, I2L, 0, 1, 2),
+        I2F => row(Alone, I2F, 0, 1, 1),
+        I2D => row(Alone, I2D, 0, 1, 2),
+        L2I => row(Alone, L2I, 0, 2, 1),
+        L2F => row(Alone, L2F, 0, 2, 1),
+        L2D => row(Alone, L2D, 0, 2, 2),
+        F2I => row(Alone, F2I, 0, 1, 1),
+        F2L => row(Alone, F2L, 0, 1, 2),
+        F2D => row(Alone, F2D, 0, 1, 2),
+        D2I => row(Alone, D2I, 0, 2, 1),
+        D2L => row(Alone, D2L, 0, 2, 2),
+        D2F => row(Alone, D2F, 0, 2, 1),
+        I2B => row(Alone, I2B, 0, 1, 1),
+        I2C => row(Alone, I2C, 0, 1, 1),
+        I2S => row(Alone, I2S, 0, 1, 1),
+        LCMP => row(Alone, LCMP, 0, 4, 1),
+        FCMPL => row(Alone, FCMPL, 0, 2, 1),
+        FCMPG => row(Alone, FCMPG, 0, 2, 1),
+        DCMPL => row(Alone, DCMPL, 0, 4, 1),
+        DCMPG => row(Alone, DCMPG, 0, 4, 1),
+        IFEQ => row(Short, IFEQ, 0, 1, 0),
+        IFNE => row(Short, IFNE, 0, 1, 0),
+        IFLT => row(Short, IFLT, 0, 1, 0),
+        IFGE => row(Short, IFGE, 0, 1, 0),
+        IFGT => row(Short, IFGT, 0, 1, 0),
+        IFLE => row(Short, IFLE, 0, 1, 0),
+        IF_ICMPEQ => row(Short, IF_ICMPEQ, 0, 2, 0),
+        IF_ICMPNE => row(Short, IF_ICMPNE, 0, 2, 0),
+        IF_ICMPLT => row(Short, IF_ICMPLT, 0, 2, 0),
+        IF_ICMPGE => row(Short, IF_ICMPGE, 0, 2, 0),
+        IF_ICMPGT => row(Short, IF_ICMPGT, 0, 2, 0),
+        IF_ICMPLE => row(Short, IF_ICMPLE, 0, 2, 0),
+        IF_ACMPEQ => row(Short, IF_ACMPEQ, 0, 2, 0),
+        IF_ACMPNE => row(Short, IF_ACMPNE, 0, 2, 0),
+        GOTO => row(Short, GOTO, 0, 0, 0),
+        TABLESWITCH => row(Table, TABLESWITCH, 0, 1, 0),
+        LOOKUPSWITCH => row(Pairs, LOOKUPSWITCH, 0, 1, 0),
+        IRETURN => row(Alone, IRETURN, 0, 1, 0),
+        LRETURN => row(Alone, LRETURN, 0, 2, 0),
+        FRETURN => row(Alone, FRETURN, 0, 1, 0),
+        DRETURN => row(Alone, DRETURN, 0, 2, 0),
+        ARETURN => row(Alone, ARETURN, 0, 1, 0),
+        RETURN => row(Alone, RETURN, 0, 0, 0),
+        WIDE => row(Widened, WIDE, 0, 0, 0),
+        IFNULL => row(Short, IFNULL, 0, 1, 0),
+        IFNONNULL => row(Short, IFNONNULL, 0, 1, 0),
+        GOTO_W => row(Branch4, GOTO, 0, 0, 0),
+        _ => return None,
+    };
+    Some(found)
 }

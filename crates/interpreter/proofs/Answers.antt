@@ -19,14 +19,15 @@ use Rattle.rules.proofs.Fetched.{fetched_sound}
 use Rattle.rules.proofs.Step.{refused_by_frame, refused_by_fetch, refused_by_needs}
 use Rattle.instructions.specs.declared.decoding.Decoded.{Decoded}
 use Rattle.instructions.specs.Decode.{instruction_by, decoded}
-use Rattle.instructions.specs.Table.{is_in, shared_in}
+use Rattle.instructions.specs.declared.forms.Entry.{Entry}
+use Rattle.instructions.specs.Table.{is_in, core_entry}
 use Rattle.effects.specs.Families.{shared_opcodes}
 use Rattle.frame.specs.declared.places.Placed.{Placed}
 use Rattle.frame.specs.Place.{place_of}
 use Rattle.frame.proofs.Needs.{Says, place_says}
 use Rattle.return_types.specs.Settled.{settled}
 use Rattle.interpreter.specs.Stages.{reach, located_of, located_decision}
-use Rattle.interpreter.proofs.Decision.{entry_at, listed}
+use Rattle.interpreter.proofs.Decision.{listed}
 use Rattle.interpreter.proofs.Sources.{located_decides}
 use Rattle.std.specs.Prelude.{Ok, Err}
 use Rattle.rules.specs.declared.refusals.Refusal.{Refusal}
@@ -44,15 +45,15 @@ ok_same : {A : Type 0} {x y : A} → ◌≡◌ {A = Check A} (Ok x) (Ok y) → x
 ok_same e = cc
 
 -- the instruction that was decoded
-pub record Decodes (code : List ℕ) (pc entry size index constant : ℕ) : Type 0 where
+pub record Decodes (code : List ℕ) (pc : ℕ) (entry : Entry) (size index constant : ℕ) : Type 0 where
   pub i : Instruction
   pub at : fetched code pc ≡ Ok i
-  pub entered : entry ≡ entry_at i
+  pub entered : entry ≡ core_entry i.opcode
   pub sized : size ≡ i.size
   pub indexed : index ≡ i.operand.index
   pub as_word : constant ≡ low 32 i.operand.constant
 
-pub decodes : (code : List ℕ) (pc entry size index constant : ℕ) → Ok (instruction_by entry size index constant) ≡ decoded (fetched code pc) → Decodes code pc entry size index constant
+pub decodes : (code : List ℕ) (pc : ℕ) (entry : Entry) (size index constant : ℕ) → Ok (instruction_by entry size index constant) ≡ decoded (fetched code pc) → Decodes code pc entry size index constant
 unfolding decoded
 decodes code pc entry size index constant e = go (fetched code pc) refl e
   where
@@ -71,7 +72,7 @@ module _ (l : Method) (s : State) (slots : List ℕ) (framed : frame_check l s (
 
   -- ---- questions 6 to 10
 
-  module _ (entry size index constant : ℕ) (d : Decodes l.code s.pc entry size index constant) where
+  module _ (entry : Entry) (size index constant : ℕ) (d : Decodes l.code s.pc entry size index constant) where
     says : (x : Check Placed) → x ≡ place_of entry index s → Says l s d.i x
     says x e = rw (e, d.entered, d.indexed) (place_says l.code s.pc d.i (fetched_sound l.code s.pc d.i d.at) s l)
 
@@ -90,7 +91,7 @@ module _ (l : Method) (s : State) (slots : List ℕ) (framed : frame_check l s (
         let e = d.sized in
         omega (arith, g.in_code)
 
-    pub in_table : is_in shared_opcodes (shared_in entry) ≡ true
+    pub in_table : is_in shared_opcodes entry.shared ≡ true
     in_table = rw d.entered (listed l s d.i (fetched_sound l.code s.pc d.i d.at))
 
 -- ---- question 10

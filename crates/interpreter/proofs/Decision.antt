@@ -22,8 +22,8 @@ use Rattle.rules.proofs.Rows.{works}
 use Rattle.rules.proofs.Fetched.{Sound}
 use Rattle.rules.proofs.Step.{result, decided}
 use Rattle.operands.specs.Switch.{offset_in, table_offset, lookup_offset}
-use Rattle.instructions.specs.Table.{is_in, shared_of, entry_of, shared_in}
-use Rattle.instructions.proofs.Entries.{entry_bytes}
+use Rattle.instructions.specs.Table.{is_in, shared_of, core_entry}
+use Rattle.instructions.proofs.Entries.{core_entry_lem}
 use Rattle.effects.specs.declared.outcome.Effect.{Effect}
 use Rattle.effects.specs.Effects.{six, effect_of, effect_at}
 use Rattle.effects.specs.Families.{shared_opcodes}
@@ -77,17 +77,14 @@ module _ (l : Method) (s : State) (i : Instruction) where
 
 -- ---- an instruction that is fetched
 
-abbrev pub entry_at : Instruction → ℕ
-entry_at i = entry_of (row_of i.opcode)
-
 abbrev pub located_at : State → Instruction → ℕ → ℕ → Located
-located_at s i first depth = located_of (entry_at i) i.operand.index (low 32 i.operand.constant) (s.pc + i.size) first depth
+located_at s i first depth = located_of (core_entry i.opcode) i.operand.index (low 32 i.operand.constant) (s.pc + i.size) first depth
 
 module _ (l : Method) (s : State) (i : Instruction) (f : Sound l.code s.pc i) where
-  pub shared_is : shared_in (entry_at i) ≡ shared_of f.row
-  shared_is = rw f.found (entry_bytes i.opcode f.row f.found).shared
+  pub shared_is : (core_entry i.opcode).shared ≡ shared_of f.row
+  shared_is = rw (core_entry_lem i.opcode f.row f.found)
 
-  pub listed : is_in shared_opcodes (shared_in (entry_at i)) ≡ true
+  pub listed : is_in shared_opcodes (core_entry i.opcode).shared ≡ true
   listed = rw shared_is (shared_listed i.opcode f.row f.found)
 
   -- its operand, with the constant taken from its word
@@ -125,11 +122,11 @@ module _ (l : Method) (s : State) (i : Instruction) (f : Sound l.code s.pc i) wh
     -- once four words are what it works on
     module _ (bare : l.handlers ≡ []) (slots : List ℕ) (framed : frame_check l s (length slots) ≡ Ok tt) (at : fetched l.code s.pc ≡ Ok i) (needed : needs_check l s i ≡ Ok tt) where
       pub from_words : (a b c d : ℕ) → words_at i.rule.reads l s (frame s slots) i ≡ take (works i.rule) (a ∷ b ∷ c ∷ d ∷ [])
-          → settled s.return_type (finish_of l.code s.pc (located_at s i first depth) a (effect_at (shared_in (entry_at i)) (low 32 i.operand.constant) a b c d)) ≡ decide_of l s slots
+          → settled s.return_type (finish_of l.code s.pc (located_at s i first depth) a (effect_at (core_entry i.opcode).shared (low 32 i.operand.constant) a b c d)) ≡ decide_of l s slots
       from_words a b c d w =
           let same : result l s (frame s slots) i ≡ does_four f.row i.operand a b c d =
           ap (i.rule.does i.operand) w ∙ ap (λ (r : Rule). r.does i.operand (take (works r) (a ∷ b ∷ c ∷ d ∷ []))) f.ruled in
-          let own : effect_at (shared_in (entry_at i)) (low 32 i.operand.constant) a b c d ≡ effect_of (does_four f.row i.operand a b c d) =
+          let own : effect_at (core_entry i.opcode).shared (low 32 i.operand.constant) a b c d ≡ effect_of (does_four f.row i.operand a b c d) =
           rw shared_is (sym (own_effect_lem i.opcode f.row f.found i.operand.index (low 32 i.operand.constant) i.operand.pairs a b c d)
           ∙ ap (λ (o : Operand). effect_of (does_four f.row o a b c d)) operand_is) in
           ap (λ (x : Effect). settled s.return_type (finish_of l.code s.pc (located_at s i first depth) a x)) own

@@ -10,7 +10,7 @@ use Rattle.effects.specs.declared.outcome.Six.{Six}
 use Rattle.interpreter.specs.declared.reading.Four.{Four}
 use Rattle.rules.specs.Step.{first_place, inside, thrown_at, decision}
 use Rattle.operands.specs.Switch.{table_offset, lookup_offset}
-use Rattle.instructions.specs.Table.{pushes_in, locals_in, shared_in}
+use Rattle.instructions.specs.declared.forms.Entry.{Entry}
 use Rattle.const_pool.specs.declared.Constant.{Constant}
 use Rattle.const_pool.specs.Constant.{constant_of}
 use Rattle.effects.specs.declared.outcome.Effect.{Effect}
@@ -50,17 +50,17 @@ abbrev pub stores_to : ℕ → Bool
 stores_to op = eqb op 54 || eqb op 55 || eqb op 132
 
 -- an instruction of an entry, with its operands, the offset after it, its first place on the stack and the new depth
-unfoldable pub located_of : ℕ → ℕ → ℕ → ℕ → ℕ → ℕ → Located
+unfoldable pub located_of : Entry → ℕ → ℕ → ℕ → ℕ → ℕ → Located
 located_of entry index constant next base depth =
     record {
-      op = shared_in entry;
+      op = entry.shared;
       index = index;
       constant = constant;
       next = next;
       base = base;
       depth = depth;
-      first = cond (stores_to (shared_in entry)) index base;
-      many = cond (stores_to (shared_in entry)) (locals_in entry) (pushes_in entry);
+      first = cond (stores_to entry.shared) index base;
+      many = cond (stores_to entry.shared) entry.locals entry.pushes;
     }
 
 -- the place of a target, if it has one

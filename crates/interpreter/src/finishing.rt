@@ -7,8 +7,8 @@ ghost use Rattle.interpreter.specs.Stages.{reach, offset_at, ordinary_to, branch
 
 use effects::{Effect, Six};
 use frame::Placed;
+use instructions::Decoded;
 use instructions::opcodes::*;
-use instructions::{Decoded, locals_in, pushes_in, shared_in};
 use operands::{inside, jump_relative, lookup_offset, table_offset};
 use rules::{Decision, Halt, Refusal, Update};
 
@@ -34,10 +34,11 @@ fn is_store(op: u8) -> bool
 }
 
 // An instruction that is decoded and placed, with the offset after it.
+#[tactic(auto, unfolding(crate::specs::Stages::located_of))]
 pub(crate) fn locate(i: Decoded, next: usize, placed: Placed) -> Located
     ensures { result ≡ located_of i.entry i.index i.constant next placed.base placed.depth }
 {
-    let op = shared_in(i.entry);
+    let op = i.entry.shared;
     let on_stack = Located {
         op,
         index: i.index,
@@ -46,12 +47,12 @@ pub(crate) fn locate(i: Decoded, next: usize, placed: Placed) -> Located
         base: placed.base,
         depth: placed.depth,
         first: placed.base,
-        many: pushes_in(i.entry),
+        many: u32::from(i.entry.pushes),
     };
     if is_store(op) {
         return Located {
             first: i.index,
-            many: locals_in(i.entry),
+            many: u32::from(i.entry.locals),
             ..on_stack
         };
     }
