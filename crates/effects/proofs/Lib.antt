@@ -1,3 +1,4 @@
 pub mod Families
 pub mod OwnRow
 pub mod Operations
+pub mod Floats

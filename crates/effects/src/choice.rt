@@ -10,6 +10,7 @@ use crate::comparisons::comparison_effect;
 use crate::constants::constant_effect;
 use crate::conversion::conversion_effect;
 use crate::float::float_effect;
+use crate::four::Four;
 use crate::moves::move_effect;
 use crate::outcome::{Effect, nothing, one};
 use crate::returns::return_effect;
@@ -72,7 +73,9 @@ fn arithmetic_effect(op: u8, constant: u32, a: u32, b: u32, c: u32, d: u32) -> E
         Numbers::Ints => integer_effect(operation_of(op), a, b, b),
         // The opcode for longs is the next one after that for ints.
         Numbers::Longs => {
-            integer_effect(operation_of(op - 1), join_words(a, b), join_words(c, d), c)
+            let x = join_words(a, b);
+            let y = join_words(c, d);
+            integer_effect(operation_of(op - 1), x, y, c)
         }
         Numbers::Floats => float_effect::<f32>(op, a, b, c, d),
         Numbers::Doubles => float_effect::<f64>(op, a, b, c, d),
@@ -105,10 +108,11 @@ fn control_effect(op: u8, a: u32, b: u32) -> Effect
 }
 
 // What a shared opcode does with its constant and its words, lowest first.
-pub fn effect(op: u8, constant: u32, a: u32, b: u32, c: u32, d: u32) -> Effect
+pub fn effect(op: u8, constant: u32, w: Four) -> Effect
     requires { is_in shared_opcodes op ≡ true }
-    ensures { result ≡ effect_at op constant a b c d }
+    ensures { result ≡ effect_at op constant w.a w.b w.c w.d }
 {
+    let Four { a, b, c, d } = w;
     if op < IADD {
         return plain_effect(op, constant, a, b, c, d);
     }

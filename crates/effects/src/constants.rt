@@ -8,6 +8,7 @@ use crate::outcome::{Effect, nothing, one, two};
 use instructions::opcodes::*;
 
 // NOP, and ACONST_NULL to SIPUSH: the words of a constant.
+#[tactic(auto, unfolding(crate::specs::Effects::effect_at, rules::specs::Instructions::row_of, values::specs::Integers::low))]
 pub(crate) fn constant_effect(op: u8, constant: u32) -> Effect
     requires { is_in constant_opcodes op ≡ true }
     ensures { (a b c d : ℕ) → result ≡ effect_at op constant a b c d }

@@ -1,12 +1,10 @@
 // Float and double arithmetic (JVMS 2.11.3), over the format.
-ghost use Rattle.std.specs.Prelude.{◌≡◌, true, ℕ, List};
+ghost use Rattle.std.specs.Prelude.{◌≡◌};
 ghost use Rattle.values.specs.Kinds.{Kind, float, double};
 ghost use Rattle.values.specs.Words.{words_of};
 ghost use Rattle.rules.specs.Forms.{pushes};
-ghost use Rattle.instructions.specs.Table.{is_in};
-ghost use Rattle.effects.specs.Effects.{effect_of, effect_at};
-ghost use Rattle.effects.specs.Families.{float_opcodes, double_opcodes};
-ghost use Rattle.effects.specs.Floats.{float_result, first_of, second_of, IsResult, of_floats, of_doubles};
+ghost use Rattle.effects.specs.Effects.{effect_of};
+ghost use Rattle.effects.specs.Floats.{float_result, first_of, second_of};
 
 use crate::outcome::{Effect, one, split};
 use conversions::Format;
@@ -14,11 +12,9 @@ use floats::{Arithmetic, add, div, mul, neg, rem, sub};
 use instructions::opcodes::*;
 use integers::join_words;
 
-// A format by how its values lie on the operand stack, and by its opcodes.
+// A format by how its values lie on the operand stack.
 pub(crate) trait OnStack: Arithmetic {
     ghost kind: { Kind };
-
-    ghost opcodes: { List ℕ };
 
     // The two values that words are, lowest first.
     fn popped(a: u32, b: u32, c: u32, d: u32) -> (Self::Word, Self::Word)
@@ -27,16 +23,10 @@ pub(crate) trait OnStack: Arithmetic {
 
     fn pushed(word: Self::Word) -> Effect
         ensures { result ≡ effect_of (pushes (words_of kind (Self.Word.number word))) };
-
-    ghost results: { (op : ℕ) → is_in opcodes op ≡ true → IsResult kind Self.format Self.Word.below op };
 }
 
 impl OnStack for f32 {
     ghost kind = { float };
-
-    ghost opcodes = { float_opcodes };
-
-    ghost results = { of_floats };
 
     fn popped(a: u32, b: u32, _c: u32, _d: u32) -> (u32, u32) {
         (a, b)
@@ -49,10 +39,6 @@ impl OnStack for f32 {
 
 impl OnStack for f64 {
     ghost kind = { double };
-
-    ghost opcodes = { double_opcodes };
-
-    ghost results = { of_doubles };
 
     fn popped(a: u32, b: u32, c: u32, d: u32) -> (u64, u64) {
         (join_words(a, b), join_words(c, d))
@@ -79,8 +65,7 @@ fn float_result<F: Arithmetic>(op: u8, x: F::Word, y: F::Word) -> F::Word
 
 // FADD to FNEG, or DADD to DNEG.
 pub(crate) fn float_effect<F: OnStack>(op: u8, a: u32, b: u32, c: u32, d: u32) -> Effect
-    requires { is_in F.opcodes op ≡ true }
-    ensures { (constant : ℕ) → result ≡ effect_at op constant a b c d }
+    ensures { let x = first_of F.kind a b c d in let y = second_of F.kind a b c d in result ≡ effect_of (pushes (words_of F.kind (float_result F.format F.Word.below op x y))) }
 {
     let (x, y) = F::popped(a, b, c, d);
     F::pushed(float_result::<F>(op, x, y))

@@ -8,10 +8,12 @@ mod comparisons;
 mod constants;
 mod conversion;
 mod float;
+mod four;
 mod moves;
 mod outcome;
 mod returns;
 mod stack;
 
 pub use choice::effect;
+pub use four::Four;
 pub use outcome::{Effect, Six};

@@ -8,6 +8,7 @@ use crate::outcome::{Effect, one, two};
 use instructions::opcodes::*;
 
 // LDC, LDC2_W, the loads and the stores, of one word or of two.
+#[tactic(auto, unfolding(crate::specs::Effects::effect_at, rules::specs::Instructions::row_of))]
 pub(crate) fn move_effect(op: u8, a: u32, b: u32) -> Effect
     requires { is_in move_opcodes op ≡ true }
     ensures { (constant c d : ℕ) → result ≡ effect_at op constant a b c d }

@@ -10,6 +10,7 @@ use integers::join_words;
 use values::Value;
 
 // IRETURN to RETURN.
+#[tactic(auto, unfolding(crate::specs::Effects::effect_at, rules::specs::Instructions::row_of))]
 pub(crate) fn return_effect(op: u8, a: u32, b: u32) -> Effect
     requires { is_in return_opcodes op ≡ true }
     ensures { (constant c d : ℕ) → result ≡ effect_at op constant a b c d }

@@ -8,6 +8,7 @@ use crate::outcome::{Effect, nothing, two, words};
 use instructions::opcodes::*;
 
 // POP to SWAP; the top word is the last of those popped.
+#[tactic(auto, unfolding(crate::specs::Effects::effect_at, rules::specs::Instructions::row_of))]
 pub(crate) fn stack_effect(op: u8, a: u32, b: u32, c: u32, d: u32) -> Effect
     requires { is_in stack_opcodes op ≡ true }
     ensures { (constant : ℕ) → result ≡ effect_at op constant a b c d }

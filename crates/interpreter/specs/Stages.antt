@@ -7,7 +7,7 @@ use Rattle.rules.specs.declared.states.State.{State}
 use Rattle.rules.specs.Questions.{Method}
 use Rattle.rules.specs.Check.{Check}
 use Rattle.effects.specs.declared.outcome.Six.{Six}
-use Rattle.interpreter.specs.declared.reading.Four.{Four}
+use Rattle.effects.specs.declared.four.Four.{Four}
 use Rattle.rules.specs.Step.{first_place, inside, thrown_at, decision}
 use Rattle.operands.specs.Switch.{table_offset, lookup_offset}
 use Rattle.instructions.specs.declared.forms.Entry.{Entry}

@@ -8,8 +8,8 @@ ghost use Rattle.interpreter.specs.Taken.{reached};
 
 use crate::catching::ask_handlers;
 use crate::deciding::decide_framed;
-use crate::stepping::moved;
-use frame::{check_frame, commit};
+use crate::stepping::take;
+use frame::check_frame;
 use rules::{Decision, Halt, Method, State};
 
 // The state that ordinary steps led to, how many they were, and what the next step comes to; nothing of that is written. A return has not been asked question 32 yet:
@@ -33,15 +33,12 @@ fn advance_plain(method: &Method, slots: &mut [u32], s: State, taken: u64, most:
     let mut steps = taken;
     loop {
         let decision = decide_framed(&own, slots, t);
-        let u = match decision {
-            Ok(u) => u,
-            Err(_) => {
-                return Reached {
-                    state: t,
-                    steps,
-                    decision,
-                };
-            }
+        let Ok(u) = decision else {
+            return Reached {
+                state: t,
+                steps,
+                decision,
+            };
         };
         if steps == most {
             return Reached {
@@ -50,8 +47,7 @@ fn advance_plain(method: &Method, slots: &mut [u32], s: State, taken: u64, most:
                 decision,
             };
         }
-        commit(slots, t, u);
-        t = moved(t, u.pc, u.depth, 0);
+        t = take(slots, t, u);
         steps += 1;
     }
 }
@@ -74,15 +70,12 @@ pub(crate) fn advance_framed(method: &Method, slots: &mut [u32], s: State, most:
         t = plain.state;
         steps = plain.steps;
         let decision = ask_handlers(method, t, decided);
-        let u = match decision {
-            Ok(u) => u,
-            Err(_) => {
-                return Reached {
-                    state: t,
-                    steps,
-                    decision,
-                };
-            }
+        let Ok(u) = decision else {
+            return Reached {
+                state: t,
+                steps,
+                decision,
+            };
         };
         if steps == most {
             return Reached {
@@ -91,8 +84,7 @@ pub(crate) fn advance_framed(method: &Method, slots: &mut [u32], s: State, most:
                 decision,
             };
         }
-        commit(slots, t, u);
-        t = moved(t, u.pc, u.depth, 0);
+        t = take(slots, t, u);
         steps += 1;
     }
 }

@@ -12,9 +12,7 @@ pub(crate) fn ask_handlers(method: &Method, s: State, decision: Decision) -> Dec
     ensures { result ≡ caught (lent method.now) s decision }
 {
     match decision {
-        Ok(u) => Ok(u),
-        Err(Halt::Return(v)) => Err(Halt::Return(v)),
         Err(Halt::Throw) => throw_at(method, s, s.pc),
-        Err(Halt::Refused(refusal)) => Err(Halt::Refused(refusal)),
+        _ => decision,
     }
 }

@@ -1,7 +1,5 @@
 // One step, decided with nothing written: questions 1 to 10 in their order, what the instruction does, the handlers of a throw, and question 32 of a return.
-ghost use Rattle.std.specs.Prelude.{◌≡◌, true, ◌≤◌, length};
-ghost use Rattle.instructions.specs.Table.{is_in};
-ghost use Rattle.effects.specs.Families.{shared_opcodes};
+ghost use Rattle.std.specs.Prelude.{◌≡◌, length};
 ghost use Rattle.rules.specs.Lent.{lent, plain};
 ghost use Rattle.rules.specs.Questions.{frame_check};
 ghost use Rattle.rules.specs.Step.{decide_of};
@@ -9,23 +7,24 @@ ghost use Rattle.return_types.specs.Settled.{settled};
 ghost use Rattle.interpreter.specs.Stages.{located_decision};
 
 use crate::catching::ask_handlers;
-use crate::finishing::{Located, finish, locate};
-use crate::reading::read_words;
+use crate::finishing::locate;
+use crate::instruction::Instruction;
 use effects::effect;
 use frame::{check_frame, place};
 use instructions::decode;
 use return_types::settle;
 use rules::{Decision, Method, State};
 
-// Question 9, what the instruction does, and question 10.
-fn decide_located(method: &Method, slots: &[u32], pc: u32, i: Located) -> Decision
-    requires code_len_bound { length method.now.code.now ≤ 65535 }
-    requires op_value { is_in shared_opcodes i.op ≡ true }
-    ensures { result ≡ located_decision (plain (lent method.now)) slots.now pc i }
-{
-    let w = read_words(method, slots, i.op, i.index, i.base)?;
-    let does = effect(i.op, i.constant, w.a, w.b, w.c, w.d);
-    finish(method.code, pc, i, w.a, does)
+impl Instruction<'_> {
+    // Question 9, what the instruction does, and question 10.
+    #[tactic(auto, unfolding(crate::specs::Stages::located_decision))]
+    fn decide(&self, slots: &[u32]) -> Decision
+        ensures { result ≡ located_decision (plain (lent self.now.method.now)) slots.now self.now.pc self.now.located }
+    {
+        let w = self.words(slots)?;
+        let does = effect(self.located.op, self.located.constant, w);
+        self.finish(w.a, does)
+    }
 }
 
 // Questions 4 to 10 of a method as if it had no handlers, where questions 1 to 3 have passed; a return is not asked question 32 yet.
@@ -36,8 +35,12 @@ pub(crate) fn decide_framed(method: &Method, slots: &[u32], s: State) -> Decisio
     let decoded = decode(method.code, s.pc)?;
     let placed = place(decoded.entry, decoded.index, s)?;
     let next = s.pc as usize + decoded.size;
-    let i = locate(decoded, next, placed);
-    decide_located(method, slots, s.pc, i)
+    let i = Instruction {
+        method,
+        pc: s.pc,
+        located: locate(decoded, next, placed),
+    };
+    i.decide(slots)
 }
 
 // One step on any method, slots and state.

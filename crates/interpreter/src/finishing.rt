@@ -1,10 +1,11 @@
 // What a step comes to, from what its instruction does: the next offset, with question 10, and where the words go.
-ghost use Rattle.std.specs.Prelude.{◌≡◌, [], true, ◌≤◌, length};
+ghost use Rattle.std.specs.Prelude.{◌≡◌, [], true, ◌≤◌};
 ghost use Rattle.values.specs.Kinds.{int};
 ghost use Rattle.values.specs.Words.{meaning};
 ghost use Rattle.rules.specs.Step.{first_place};
 ghost use Rattle.interpreter.specs.Stages.{reach, offset_at, ordinary_to, branch_of, finish_of, stores_to, located_of};
 
+use crate::instruction::Instruction;
 use effects::{Effect, Six};
 use frame::Placed;
 use instructions::Decoded;
@@ -96,53 +97,55 @@ fn ordinary_to(to: Result<usize, Refusal>, depth: u32, first: u32, many: u32, w:
     })
 }
 
-// The offset of a branch that is taken: a switch looks its key up in the code, any other has it as its constant.
-fn branch_offset(code: &[u8], pc: u32, op: u8, constant: u32, key: u32) -> u32
-    ensures { meaning int result ≡ offset_at code.now pc op constant key }
-{
-    if op == TABLESWITCH {
-        return table_offset(code, pc, key);
-    }
-    if op == LOOKUPSWITCH {
-        return lookup_offset(code, pc, key);
-    }
-    constant
-}
-
-// A branch that is taken.
-fn jump(code: &[u8], pc: u32, i: Located, key: u32) -> Decision
-    requires { length code.now ≤ 65535 }
-    ensures { result ≡ branch_of code.now pc i key true }
-{
-    let offset = branch_offset(code, pc, i.op, i.constant, key);
-    let to = jump_relative(code, pc, offset);
-    ordinary_to(to, i.depth, 0, 0, NO_WORDS)
-}
-
-// A branch, taken or not.
-fn branch(code: &[u8], pc: u32, i: Located, key: u32, taken: bool) -> Decision
-    requires { length code.now ≤ 65535 }
-    ensures { result ≡ branch_of code.now pc i key taken }
-{
-    if taken {
-        return jump(code, pc, i, key);
-    }
-    let to = inside(code, i.next);
-    ordinary_to(to, i.depth, 0, 0, NO_WORDS)
-}
-
-// What the step comes to, of what its instruction does; `key` is the first word that it works on.
-pub(crate) fn finish(code: &[u8], pc: u32, i: Located, key: u32, does: Effect) -> Decision
-    requires { length code.now ≤ 65535 }
-    ensures { result ≡ finish_of code.now pc i key does }
-{
-    match does {
-        Effect::Words(w) => {
-            let to = inside(code, i.next);
-            ordinary_to(to, i.depth, i.first, i.many, w)
+impl Instruction<'_> {
+    // The offset of a branch that is taken: a switch looks its key up in the code, any other has it as its constant.
+    #[tactic(auto, unfolding(crate::specs::Stages::offset_at))]
+    fn offset(&self, key: u32) -> u32
+        ensures { meaning int result ≡ offset_at self.now.method.now.code.now self.now.pc self.now.located.op self.now.located.constant key }
+    {
+        let code = self.method.code;
+        match self.located.op {
+            TABLESWITCH => table_offset(code, self.pc, key),
+            LOOKUPSWITCH => lookup_offset(code, self.pc, key),
+            _ => self.located.constant,
         }
-        Effect::Throw => Err(Halt::Throw),
-        Effect::Branch(taken) => branch(code, pc, i, key, taken),
-        Effect::Return(v) => Err(Halt::Return(v)),
+    }
+
+    // A branch that is taken.
+    #[tactic(auto, unfolding(crate::specs::Stages::branch_of))]
+    fn jump(&self, key: u32) -> Decision
+        ensures { result ≡ branch_of self.now.method.now.code.now self.now.pc self.now.located key true }
+    {
+        let to = jump_relative(self.method.code, self.pc, self.offset(key));
+        ordinary_to(to, self.located.depth, 0, 0, NO_WORDS)
+    }
+
+    // A branch, taken or not; `key` is the first word that it works on.
+    #[tactic(auto, unfolding(crate::specs::Stages::branch_of))]
+    fn branch(&self, key: u32, taken: bool) -> Decision
+        ensures { result ≡ branch_of self.now.method.now.code.now self.now.pc self.now.located key taken }
+    {
+        if taken {
+            return self.jump(key);
+        }
+        let to = inside(self.method.code, self.located.next);
+        ordinary_to(to, self.located.depth, 0, 0, NO_WORDS)
+    }
+
+    // What the step comes to, of what the instruction does; `key` is the first word that it works on.
+    #[tactic(auto, unfolding(crate::specs::Stages::finish_of))]
+    pub(crate) fn finish(&self, key: u32, does: Effect) -> Decision
+        ensures { result ≡ finish_of self.now.method.now.code.now self.now.pc self.now.located key does }
+    {
+        let i = self.located;
+        match does {
+            Effect::Words(w) => {
+                let to = inside(self.method.code, i.next);
+                ordinary_to(to, i.depth, i.first, i.many, w)
+            }
+            Effect::Throw => Err(Halt::Throw),
+            Effect::Branch(taken) => self.branch(key, taken),
+            Effect::Return(v) => Err(Halt::Return(v)),
+        }
     }
 }

@@ -5,6 +5,7 @@ mod advancing;
 mod catching;
 mod deciding;
 mod finishing;
+mod instruction;
 mod reading;
 mod running;
 mod stepping;

@@ -3,18 +3,11 @@ ghost use Rattle.std.specs.Prelude.{◌≡◌, get_or};
 ghost use Rattle.rules.specs.Lent.{lent, plain};
 ghost use Rattle.interpreter.specs.Stages.{four_at, from_pool, reads_local, read_of};
 
+use crate::instruction::Instruction;
 use const_pool::{Constant, Width, load_constant};
+use effects::Four;
 use instructions::opcodes::*;
-use rules::{Method, Refusal};
-
-// Up to four words, lowest first; those past the number that an instruction works on are any. Named, and no array: rules/src/updates says why.
-#[derive(Clone, Copy)]
-pub(crate) struct Four {
-    pub a: u32,
-    pub b: u32,
-    pub c: u32,
-    pub d: u32,
-}
+use rules::Refusal;
 
 // The word at a place, and 0 past the end.
 fn word_at(slots: &[u32], place: usize) -> u32
@@ -66,24 +59,19 @@ fn reads_local(op: u8) -> bool
     op == ILOAD || op == LLOAD || op == IINC
 }
 
-// The words of an instruction with its shared opcode, its index and its first place on the stack.
-pub(crate) fn read_words(
-    method: &Method,
-    slots: &[u32],
-    op: u8,
-    index: u32,
-    base: u32,
-) -> Result<Four, Refusal>
-    ensures { result ≡ read_of (plain (lent method.now)) slots.now op index base }
-{
-    if op == LDC {
-        return from_pool(load_constant(method, index, Width::One));
+impl Instruction<'_> {
+    // The words that it works on.
+    #[tactic(auto, unfolding(crate::specs::Stages::read_of))]
+    pub(crate) fn words(&self, slots: &[u32]) -> Result<Four, Refusal>
+        ensures { result ≡ read_of (plain (lent self.now.method.now)) slots.now self.now.located.op self.now.located.index self.now.located.base }
+    {
+        let method = self.method;
+        let index = self.located.index;
+        match self.located.op {
+            LDC => from_pool(load_constant(method, index, Width::One)),
+            LDC2_W => from_pool(load_constant(method, index, Width::Two)),
+            op if reads_local(op) => Ok(four_at(slots, index)),
+            _ => Ok(four_at(slots, self.located.base)),
+        }
     }
-    if op == LDC2_W {
-        return from_pool(load_constant(method, index, Width::Two));
-    }
-    if reads_local(op) {
-        return Ok(four_at(slots, index));
-    }
-    Ok(four_at(slots, base))
 }

@@ -7,8 +7,8 @@ ghost use Rattle.rules.specs.Run.{run_from, run_of, Account};
 ghost use Rattle.interpreter.specs.Taken.{ran, end_of, ended_at};
 
 use crate::advancing::advance_framed;
-use crate::stepping::moved;
-use frame::{check_frame, commit};
+use crate::stepping::{moved, take};
+use frame::check_frame;
 use return_types::settle;
 use rules::{Decision, End, Halt, Method, State};
 
@@ -45,20 +45,14 @@ fn run_framed(method: &Method, slots: &mut [u32], s: State, budget: u64) -> Ran
     }
     let reached = advance_framed(method, slots, s, budget - 1);
     let t = reached.state;
-    let decision = reached.decision;
-    let u = match decision {
-        Ok(u) => u,
-        Err(_) => {
-            let end = end_of(settle(t.return_type, decision));
-            return ended(t, reached.steps, end);
-        }
+    let Ok(u) = reached.decision else {
+        let end = end_of(settle(t.return_type, reached.decision));
+        return ended(t, reached.steps, end);
     };
-    commit(slots, t, u);
-    let state = moved(t, u.pc, u.depth, 0);
-    let steps = reached.steps + 1;
+    let state = take(slots, t, u);
     Ran {
         state,
-        steps,
+        steps: reached.steps + 1,
         end: None,
     }
 }

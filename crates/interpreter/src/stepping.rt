@@ -1,14 +1,13 @@
 // One step, taken: decided, and then written in one place.
-ghost use Rattle.std.specs.Prelude.{◌≡◌, length};
+ghost use Rattle.std.specs.Prelude.{◌≡◌, ◌+◌, ◌≤◌, length};
 ghost use Rattle.rules.specs.Lent.{lent};
-ghost use Rattle.rules.specs.Questions.{frame_check};
-ghost use Rattle.rules.specs.Step.{core_machine, moved, step_of};
+ghost use Rattle.rules.specs.Step.{core_machine, moved, step_of, written};
 ghost use Rattle.interpreter.specs.Taken.{stepped};
 
-use crate::advancing::advance_framed;
-use frame::{check_frame, commit};
+use crate::advancing::advance;
+use frame::commit;
 use return_types::settle;
-use rules::{Decision, Halt, Method, State};
+use rules::{Decision, Method, State, Update};
 
 // The state after a step, and what the step came to.
 #[derive(Clone, Copy)]
@@ -29,37 +28,28 @@ pub fn moved(s: State, pc: u32, depth: u32, count: u64) -> State
     }
 }
 
-// A step where questions 1 to 3 have passed: an ordinary one moves the state, with count 0, and writes its words; any other changes nothing.
-fn step_framed(method: &Method, slots: &mut [u32], s: State) -> Stepped
-    requires { frame_check (lent method.now) s (length slots.old) ≡ Ok tt }
-    ensures { stepped result slots.new ≡ step_of (core_machine (lent method.now)) s slots.old }
+// An ordinary step, taken: its words are written, and the count is 0.
+pub(crate) fn take(slots: &mut [u32], s: State, u: Update) -> State
+    requires { (u.many ≤ 6) × (u.first + u.many ≤ s.max_locals + s.max_stack) × (s.max_locals + s.max_stack ≤ length slots.old) }
+    ensures state_after { result ≡ moved s u.pc u.depth 0 }
+    ensures slots_after { slots.new ≡ written u slots.old }
 {
-    let reached = advance_framed(method, slots, s, 0);
-    let decision = reached.decision;
-    let u = match decision {
-        Ok(u) => u,
-        Err(_) => {
-            return Stepped {
-                state: s,
-                decision: settle(s.return_type, decision),
-            };
-        }
-    };
     commit(slots, s, u);
-    let state = moved(s, u.pc, u.depth, 0);
-    Stepped { state, decision }
+    moved(s, u.pc, u.depth, 0)
 }
 
-// A step without history on any method, slots and state.
+// A step without history on any method, slots and state: an ordinary one moves the state, with count 0, and writes its words; any other changes nothing.
 pub fn step(method: &Method, slots: &mut [u32], s: State) -> Stepped
     ensures { stepped result slots.new ≡ step_of (core_machine (lent method.now)) s slots.old }
 {
-    let asked = check_frame(method, slots, s);
-    match asked {
-        Err(refusal) => Stepped {
+    let reached = advance(method, slots, s, 0);
+    let decision = reached.decision;
+    let Ok(u) = decision else {
+        return Stepped {
             state: s,
-            decision: Err(Halt::Refused(refusal)),
-        },
-        Ok(()) => step_framed(method, slots, s),
-    }
+            decision: settle(s.return_type, decision),
+        };
+    };
+    let state = take(slots, s, u);
+    Stepped { state, decision }
 }

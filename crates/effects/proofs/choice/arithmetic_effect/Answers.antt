@@ -6,6 +6,7 @@ use Rattle.integers.specs.Widths.{number, low_bits}
 use Rattle.rules.specs.Instructions.{row_of}
 use Rattle.effects.specs.Effects.{effect_of, effect_at}
 use Rattle.effects.specs.Operations.{result_of}
+use Rattle.effects.proofs.Floats.{of_floats, of_doubles}
 use Rattle.effects.proofs.Operations.{before, int_row, long_row}
 use Rattle.effects.proofs.choice.arithmetic_effect.Goals as goal
 
@@ -22,4 +23,12 @@ operation_of-requires-in-Longs c = before c.args.op (grind (arith, common_steps)
 
 pub returns-in-Longs : goal.returns-in-Longs
 returns-in-Longs c = let x = c.args in
-    rw (c.join_words.ensures, c.join_words-in-Longs.ensures, c.operation_of-in-Longs.ensures) at c.integer_effect-in-Longs.ensures ∙ sym (long_row x.op x.constant x.a x.b x.c x.d (grind (arith, common_steps)))
+    rw (c.join_words-x.ensures, c.join_words-y.ensures, c.operation_of-in-Longs.ensures) at c.integer_effect-in-Longs.ensures ∙ sym (long_row x.op x.constant x.a x.b x.c x.d (grind (arith, common_steps)))
+
+pub returns-in-Floats : goal.returns-in-Floats
+returns-in-Floats c = let x = c.args in
+    c.float_effect.ensures ∙ sym (of_floats x.op (grind (arith, common_steps)) x.constant x.a x.b x.c x.d)
+
+pub returns-in-Doubles : goal.returns-in-Doubles
+returns-in-Doubles c = let x = c.args in
+    c.float_effect-in-Doubles.ensures ∙ sym (of_doubles x.op (grind (arith, common_steps)) x.constant x.a x.b x.c x.d)

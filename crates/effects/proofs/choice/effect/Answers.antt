@@ -10,7 +10,7 @@ unfolding shared_opcodes
 conversion_effect-requires c = let p = c.before.before.before in from 133 148 conversion_opcodes refl p.args.op (omega arith) (omega arith) p.requires
 
 pub returns-then-op-lt-LCMP : goal.returns-then-op-lt-LCMP
-returns-then-op-lt-LCMP c = let x = c.args in c.conversion_effect.ensures x.constant x.c x.d
+returns-then-op-lt-LCMP c = let x = c.args in c.conversion_effect.ensures x.constant x.w.c x.w.d
 
 pub comparison_effect-requires : goal.comparison_effect-requires
 unfolding shared_opcodes
@@ -20,4 +20,4 @@ pub returns-then-op-lt-IFEQ : goal.returns-then-op-lt-IFEQ
 returns-then-op-lt-IFEQ c = c.comparison_effect.ensures c.args.constant
 
 pub returns : goal.returns
-returns c = let x = c.args in c.control_effect.ensures x.constant x.c x.d
+returns c = let x = c.args in c.control_effect.ensures x.constant x.w.c x.w.d

@@ -53,18 +53,8 @@ loop-u-init c = let p = c.requires in record { upto = omega arith; long = refl; 
 pub advance_plain-plain-requires : goal.advance_plain-plain-requires
 advance_plain-plain-requires c = let t = c.loop-u in record { slots_value = plain_framed _ _ _ t.invariant.framed; taken_le_most = t.invariant.upto }
 
-pub shape_of-slots-in-Err : goal.shape_of-slots-in-Err
-shape_of-slots-in-Err c =
-    let a = c.args in
-    let l = lent a.method.now in
-    let t = c.loop-u in
-    let p = c.advance_plain-plain in
-    let r = reached p.result p.new.slots in
-    let g = going l a.slots.now a.most a.s t.slots t.t t.steps t.invariant r p.ensures in
-    g.long
-
-pub returns-in-Err : goal.returns-in-Err
-returns-in-Err c =
+pub returns-in_default : goal.returns-in_default
+returns-in_default c =
     let a = c.args in
     let l = lent a.method.now in
     let t = c.loop-u in
@@ -73,19 +63,9 @@ returns-in-Err c =
     let g = going l a.slots.now a.most a.s t.slots t.t t.steps t.invariant r p.ensures in
     let d = decides l a.slots.now a.most a.s t.slots t.t t.steps t.invariant r p.ensures p.result.decision c.ask_handlers-decision.result refl c.ask_handlers-decision.ensures in
     record {
-      slots_after = ends_there _ _ _ _ _ r.slots r.state r.steps g c.ask_handlers-decision.result d (_, c.in-Err.is) ∙ rw (sub-zero a.most);
+      slots_after = ends_there _ _ _ _ _ r.slots r.state r.steps g c.ask_handlers-decision.result d (_, c.in_default.is) ∙ rw (sub-zero a.most);
       steps_le_most = g.upto;
     }
-
-pub shape_of-slots-then-steps-most : goal.shape_of-slots-then-steps-most
-shape_of-slots-then-steps-most c =
-    let a = c.args in
-    let l = lent a.method.now in
-    let t = c.loop-u in
-    let p = c.advance_plain-plain in
-    let r = reached p.result p.new.slots in
-    let g = going l a.slots.now a.most a.s t.slots t.t t.steps t.invariant r p.ensures in
-    g.long
 
 pub returns-then-steps-most : goal.returns-then-steps-most
 returns-then-steps-most c =
@@ -101,8 +81,8 @@ returns-then-steps-most c =
       steps_le_most = g.upto;
     }
 
-pub commit-requires : goal.commit-requires
-commit-requires c =
+pub take-t-requires : goal.take-t-requires
+take-t-requires c =
     let a = c.args in
     let l = lent a.method.now in
     let t = c.loop-u in
@@ -142,4 +122,4 @@ loop-u-preserved c =
     let r = reached p.result p.new.slots in
     let g = going l a.slots.now a.most a.s t.slots t.t t.steps t.invariant r p.ensures in
     let d = decides l a.slots.now a.most a.s t.slots t.t t.steps t.invariant r p.ensures p.result.decision c.ask_handlers-decision.result refl c.ask_handlers-decision.ensures in
-    rw (c.moved-t.ensures, c.commit.ensures) (turn _ _ _ _ _ r.slots r.state r.steps g c.if-steps-most.false _ (sym d ∙ ap (settled _) c.in-Ok.is))
+    rw (c.take-t.ensures.state_after, c.take-t.ensures.slots_after) (turn _ _ _ _ _ r.slots r.state r.steps g c.if-steps-most.false _ (sym d ∙ ap (settled _) c.in-Ok.is))

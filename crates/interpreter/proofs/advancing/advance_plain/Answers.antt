@@ -13,22 +13,16 @@ loop-u-init c = let p = c.requires in record { upto = p.taken_le_most; long = re
 pub decide_framed-decision-requires : goal.decide_framed-decision-requires
 decide_framed-decision-requires c = c.loop-u.invariant.framed
 
-pub shape_of-slots-in-Err : goal.shape_of-slots-in-Err
-shape_of-slots-in-Err c = c.loop-u.invariant.long
-
-pub returns-in-Err : goal.returns-in-Err
-returns-in-Err c = let t = c.loop-u in
-    ends_there _ _ _ _ _ t.slots t.t t.steps t.invariant c.decide_framed-decision.result c.decide_framed-decision.ensures (_, c.in-Err.is)
-
-pub shape_of-slots-then-steps-most : goal.shape_of-slots-then-steps-most
-shape_of-slots-then-steps-most c = c.loop-u.invariant.long
+pub returns-in_default : goal.returns-in_default
+returns-in_default c = let t = c.loop-u in
+    ends_there _ _ _ _ _ t.slots t.t t.steps t.invariant c.decide_framed-decision.result c.decide_framed-decision.ensures (_, c.in_default.is)
 
 pub returns-then-steps-most : goal.returns-then-steps-most
 returns-then-steps-most c = let t = c.loop-u in
     all_taken _ _ _ _ _ t.slots t.t t.steps t.invariant c.if-steps-most.true _ (sym c.decide_framed-decision.ensures ∙ ap (settled _) c.in-Ok.is)
 
-pub commit-requires : goal.commit-requires
-commit-requires c = let t = c.loop-u in
+pub take-t-requires : goal.take-t-requires
+take-t-requires c = let t = c.loop-u in
     let k = ordinary_legal _ t.t t.slots _ (sym c.decide_framed-decision.ensures ∙ ap (settled _) c.in-Ok.is) in
     (k.few, k.within, k.frame_there.room)
 
@@ -41,5 +35,5 @@ loop-u-smaller c = omega (arith, c.loop-u.invariant.upto, c.if-steps-most.false)
 
 pub loop-u-preserved : goal.loop-u-preserved
 loop-u-preserved c = let t = c.loop-u in
-    rw (c.moved-t.ensures, c.commit.ensures)
+    rw (c.take-t.ensures.state_after, c.take-t.ensures.slots_after)
     (turn _ _ _ _ _ t.slots t.t t.steps t.invariant c.if-steps-most.false _ (sym c.decide_framed-decision.ensures ∙ ap (settled _) c.in-Ok.is))

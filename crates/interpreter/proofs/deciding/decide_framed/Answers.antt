@@ -17,13 +17,13 @@ overflow_add-next c = let a = c.args in
     let d = decodes l.code a.s.pc _ _ _ _ (sym c.in_ok-decoded.was ∙ c.decode.ensures) in
     omega (arith, next_small l a.s a.slots.now f _ _ _ _ d)
 
-pub decide_located-requires : goal.decide_located-requires
+pub invariant_of-i : goal.invariant_of-i
 unfolding located_of
-decide_located-requires c = let a = c.args in
+invariant_of-i c = let a = c.args in
     let l = plain (lent a.method.now) in
     let f = c.requires in
     let d = decodes l.code a.s.pc _ _ _ _ (sym c.in_ok-decoded.was ∙ c.decode.ensures) in
-    rw c.locate-i.ensures (record { code_len_bound = (framed l a.s _ f).short_code; op_value = in_table l a.s a.slots.now f _ _ _ _ d })
+    rw c.locate.ensures (record { short = (framed l a.s _ f).short_code; shared = in_table l a.s a.slots.now f _ _ _ _ d })
 
 pub returns-in_err-decoded : goal.returns-in_err-decoded
 returns-in_err-decoded c = let a = c.args in
@@ -42,4 +42,4 @@ pub returns : goal.returns
 returns c = let a = c.args in
     let l = plain (lent a.method.now) in
     let d = decodes l.code a.s.pc _ _ _ _ (sym c.in_ok-decoded.was ∙ c.decode.ensures) in
-    ap (settled a.s.return_type) c.decide_located.ensures ∙ rw c.locate-i.ensures (by_located l a.s a.slots.now c.requires _ _ _ _ d refl _ _ (sym c.in_ok-placed.was ∙ c.place.ensures))
+    ap (settled a.s.return_type) c.decide.ensures ∙ rw c.locate.ensures (by_located l a.s a.slots.now c.requires _ _ _ _ d refl _ _ (sym c.in_ok-placed.was ∙ c.place.ensures))

@@ -13,23 +13,23 @@ returns-then-budget-eq0 c = let a = c.args in
     let l = lent a.method.now in
     rw c.ended.ensures (no_budget l a.budget a.s a.slots.now c.if-budget-eq0.true)
 
-pub returns-in-Err : goal.returns-in-Err
-returns-in-Err c = let a = c.args in
+pub returns-in_default : goal.returns-in_default
+returns-in_default c = let a = c.args in
     let r = c.advance_framed-reached.result in
     let l = lent a.method.now in
-    rw (c.ended-in-Err.ensures, c.end_of-end.ensures, c.settle.ensures)
-    (ends_other l a.budget a.s a.slots.now c.if-budget-eq0.false _ c.advance_framed-reached.ensures.slots_after (settled_other r.state.return_type r.decision (_, c.in-Err.is)))
+    rw (c.ended-in_default.ensures, c.end_of-end.ensures, c.settle.ensures)
+    (ends_other l a.budget a.s a.slots.now c.if-budget-eq0.false _ c.advance_framed-reached.ensures.slots_after (settled_other r.state.return_type r.decision (_, c.in_default.is)))
 
-pub commit-requires : goal.commit-requires
-commit-requires c = let a = c.args in
+pub take-state-requires : goal.take-state-requires
+take-state-requires c = let a = c.args in
     let l = lent a.method.now in
     let k = legal_last l a.budget a.s a.slots.now c.if-budget-eq0.false _ c.advance_framed-reached.ensures.slots_after _ (ap (settled _) c.in-Ok.is) in
     (k.few, k.within, k.frame_there.room)
 
-pub overflow_add-steps : goal.overflow_add-steps
-overflow_add-steps c = omega (arith, c.advance_framed-reached.ensures.steps_le_most, c.if-budget-eq0.false, c.ranges.budget)
+pub overflow_add-result : goal.overflow_add-result
+overflow_add-result c = omega (arith, c.advance_framed-reached.ensures.steps_le_most, c.if-budget-eq0.false, c.ranges.budget)
 
 pub returns : goal.returns
 returns c = let a = c.args in
     let l = lent a.method.now in
-    rw (c.moved-state.ensures, c.commit.ensures) (ends_stopped l a.budget a.s a.slots.now c.if-budget-eq0.false _ c.advance_framed-reached.ensures.slots_after _ (ap (settled _) c.in-Ok.is))
+    rw (c.take-state.ensures.state_after, c.take-state.ensures.slots_after) (ends_stopped l a.budget a.s a.slots.now c.if-budget-eq0.false _ c.advance_framed-reached.ensures.slots_after _ (ap (settled _) c.in-Ok.is))
