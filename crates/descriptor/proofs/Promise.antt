@@ -9,11 +9,11 @@ use Rattle.std.specs.Option.{ok_or}
 use Rattle.values.specs.Kinds.{places_of}
 use Rattle.rules.specs.Check.{Check, ◌>>◌}
 use Rattle.rules.specs.Fetch.{u8}
-use Rattle.rules.specs.Descriptor.{opening, closing, parameter_kinds, parameters_end, return_letter, return_end, return_type, descriptor_check}
+use Rattle.rules.specs.Descriptor.{descriptor_of, opening, closing, parameter_kinds, parameters_end, return_letter, return_end, return_type, descriptor_check}
 use Rattle.rules.specs.declared.refusals.Refusal.{Refusal}
 use Rattle.rules.proofs.Standing.{inside}
 use Rattle.rules.proofs.Descriptor.{descriptor_sound, descriptor_complete, not_opened, too_many_places, not_closed, no_return, is_descriptor}
-use Rattle.descriptor.specs.declared.descriptors.Descriptor.{Descriptor}
+use Rattle.rules.specs.declared.descriptors.Descriptor.{Descriptor}
 use Rattle.descriptor.specs.declared.descriptors.Parameters.{Parameters}
 use Rattle.descriptor.specs.Answers.{descriptor_of, described, Exact, Promise, Parsed, Whole}
 

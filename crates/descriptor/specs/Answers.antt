@@ -2,8 +2,8 @@
 use Rattle.std.specs.Prelude.{ℕ, ◌≤◌, ◌<◌, ◌≡◌, Option, Some, None, cond, List, Ok, Err}
 use Rattle.values.specs.Kinds.{Kind, places_of}
 use Rattle.rules.specs.Check.{Check, ◌>>◌, ◌=ⁿ◌}
-use Rattle.rules.specs.Descriptor.{MethodDescriptor, parameter_kinds, parameters_end, return_type, descriptor_check}
-use Rattle.descriptor.specs.declared.descriptors.Descriptor.{Descriptor}
+use Rattle.rules.specs.Descriptor.{MethodDescriptor, parameter_kinds, parameters_end, return_type, descriptor_of, descriptor_check}
+use Rattle.rules.specs.declared.descriptors.Descriptor.{Descriptor}
 use Rattle.descriptor.specs.declared.descriptors.Parameters.{Parameters}
 use Rattle.rules.specs.declared.refusals.Refusal.{Refusal}
 
@@ -12,9 +12,6 @@ abbrev pub some_offset : ℕ → Option ℕ
 some_offset n = cond (n =ⁿ 0) None (Some n)
 
 -- what it says where it is one
-abbrev pub descriptor_of : List ℕ → Descriptor
-descriptor_of d = record { places = places_of (parameter_kinds d); return_type = return_type d }
-
 abbrev pub described : List ℕ → Check Descriptor
 described d = do
   descriptor_check d

@@ -8,14 +8,8 @@ use crate::cursor::Cursor;
 use crate::fields::places_of;
 use crate::letters::{CLOSING, OPENING};
 use rules::Refusal;
+use rules::descriptors::Descriptor;
 use rules::letters::{ARRAY, CLASS, VOID};
-
-// What a descriptor says: the places of its parameters, and its return type (B C D F I J L S V Z, L for every reference).
-#[derive(Clone, Copy)]
-pub struct Descriptor {
-    pub places: u32,
-    pub return_type: u32,
-}
 
 // The place after the parameters, and how many places of a frame they have.
 #[derive(Clone, Copy)]

@@ -7,4 +7,5 @@ mod fields;
 mod letters;
 mod names;
 
-pub use descriptors::{Descriptor, read_descriptor};
+pub use descriptors::read_descriptor;
+pub use rules::descriptors::Descriptor;

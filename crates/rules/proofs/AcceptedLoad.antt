@@ -15,7 +15,7 @@ use Rattle.rules.specs.Check.{Check, ◌>>=◌, ◌>>◌}
 use Rattle.rules.specs.Fetch.{u8}
 use Rattle.rules.specs.Questions.{method}
 use Rattle.rules.specs.Step.{frame}
-use Rattle.rules.specs.Sheet.{last_number, record_end, is_wide, sheet_check, memory_check, Pool, with_words, with_value, pool_from, loaded_pool, arguments_from, loaded_frame, loaded_slots, loaded_state, handlers_length, accepted_load, load_by, load_of, code_of, handlers_of}
+use Rattle.rules.specs.Sheet.{last_number, record_end, is_wide, sheet_check, memory_check, Pool, with_words, with_value, pool_from, loaded_pool, arguments_from, loaded_frame, loaded_slots, state_type, loaded_state, handlers_length, accepted_load, load_by, load_of, code_of, handlers_of}
 use Rattle.rules.proofs.RefusalNumbers.{number_above}
 use Rattle.rules.proofs.Check.{first_passed, last_passed}
 use Rattle.rules.proofs.Questions.{Framed}
@@ -64,7 +64,7 @@ length_arguments sheet at (suc n) = ap suc (length_arguments sheet (at + 4) n)
 
 module _ (sheet slots kinds words : List ℕ) (bytes : (i : ℕ) → u8 sheet i < 256) (p : Reading) (read : sheet_check sheet ≡ Ok p) (fits : memory_check p slots kinds words ≡ Ok tt) where
   abbrev state : State
-  state = loaded_state p.max_stack p.max_locals p.return_type
+  state = loaded_state p.max_stack p.max_locals (state_type p.descriptor)
 
   abbrev code : List ℕ
   code = code_of sheet (accepted_load p)

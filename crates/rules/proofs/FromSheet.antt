@@ -14,7 +14,7 @@ use Rattle.rules.specs.declared.sheets.Reading.{Reading}
 use Rattle.rules.specs.Fetch.{u8, u32}
 use Rattle.rules.specs.Questions.{Method, method}
 use Rattle.rules.specs.Step.{Decider, machine_by}
-use Rattle.rules.specs.Sheet.{record_end, pool_index, pool_tag, is_wide, sheet_check, memory_check, Pool, with_words, with_value, pool_from, pool_start, loaded_pool, arguments_from, loaded_frame, loaded_slots, loaded_state, accepted_load, AfterLoad, load_of, code_of, handlers_of}
+use Rattle.rules.specs.Sheet.{record_end, pool_index, pool_tag, is_wide, sheet_check, memory_check, Pool, with_words, with_value, pool_from, pool_start, loaded_pool, arguments_from, loaded_frame, loaded_slots, state_type, loaded_state, accepted_load, AfterLoad, load_of, code_of, handlers_of}
 use Rattle.rules.specs.PlainWalk.{Stage, stage_of, PlainWalk, Press}
 use Rattle.rules.specs.Walk.{Walked, walk_of, Demand3}
 use Rattle.rules.specs.FromSheet.{Lengths, places_from, places_by, kind_by, word_by, through_records, in_pool, sheet_method, argument_or_zero, stage0, plain_walk_by, reading_of, plain_walk_of}
@@ -164,7 +164,7 @@ module _ (sheet slots kinds words : List ℕ) (bytes : (i : ℕ) → u8 sheet i 
       code = take p.code_length (drop p.code sheet)
 
   -- and so is stage 0
-  pub stage_given : stage_of (loaded_state p.max_stack p.max_locals p.return_type) (loaded_slots sheet p slots) ≡ stage0 sheet p
+  pub stage_given : stage_of (loaded_state p.max_stack p.max_locals (state_type p.descriptor)) (loaded_slots sheet p slots) ≡ stage0 sheet p
   stage_given = ap (λ (f : List ℕ). record { pc = 0; depth = 0; frame = f })
       (frame_is sheet slots kinds words bytes p read fits
       ∙ places_are (loaded_frame sheet p) (argument_or_zero sheet p) (frame_at sheet p)
@@ -173,14 +173,14 @@ module _ (sheet slots kinds words : List ℕ) (bytes : (i : ℕ) → u8 sheet i 
   module _ (rules : Method → Decider) (law : (l : Method) → Lawful (machine_by rules l)) where
     -- the plain walk on these slots, by its method and stage 0
     abbrev build : List ℕ → Method → Stage → PlainWalk
-    build log l t = record { machine = machine_by rules l; slots = length (loaded_slots sheet p slots); log = length log; state = loaded_state p.max_stack p.max_locals p.return_type; first = t }
+    build log l t = record { machine = machine_by rules l; slots = length (loaded_slots sheet p slots); log = length log; state = loaded_state p.max_stack p.max_locals (state_type p.descriptor); first = t }
 
     walk_given : (log : List ℕ)
         → walk_from (machine_by rules (method (code_of sheet (accepted_load p)) (loaded_pool sheet p kinds words).kinds (loaded_pool sheet p kinds words).words (handlers_of sheet (accepted_load p))))
-        (loaded_state p.max_stack p.max_locals p.return_type) (loaded_slots sheet p slots) log
+        (loaded_state p.max_stack p.max_locals (state_type p.descriptor)) (loaded_slots sheet p slots) log
         ≡ plain_walk_of rules sheet (lengths (length log))
     walk_given log =
-        ap (λ (l : Method). build log l (stage_of (loaded_state p.max_stack p.max_locals p.return_type) (loaded_slots sheet p slots))) (method_given (length log))
+        ap (λ (l : Method). build log l (stage_of (loaded_state p.max_stack p.max_locals (state_type p.descriptor)) (loaded_slots sheet p slots))) (method_given (length log))
         ∙ ap (build log (sheet_method sheet p (lengths (length log)))) stage_given
         ∙ ap (plain_walk_by rules sheet (lengths (length log))) (sym (ap reading_of read))
 

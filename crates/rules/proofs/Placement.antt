@@ -12,7 +12,7 @@ use Rattle.rules.specs.declared.sheets.Mark.{Mark}
 use Rattle.rules.specs.declared.sheets.Mark.TheVariants.{LM, DS, CD, KI, EX, AR}
 use Rattle.rules.specs.declared.sheets.Reading.{Reading}
 use Rattle.rules.specs.Fetch.{u8, u16}
-use Rattle.rules.specs.Sheet.{last_number, body_length, body_at, record_end, known_mark, follows, right_length, pool_index, last_index, is_wide, unread, with_record, contents_check, marked_check, record_check, end_check, read_from, sheet_check}
+use Rattle.rules.specs.Sheet.{last_number, last_used, body_length, body_at, record_end, known_mark, follows, right_length, pool_index, last_index, is_wide, unread, with_record, contents_check, marked_check, record_check, end_check, read_from, sheet_check}
 use Rattle.rules.proofs.Check.{first_passed, last_passed, or_true, cases, Holds, asked, after, bound, held, either}
 use Rattle.std.specs.Prelude.{Ok}
 
@@ -26,8 +26,8 @@ pub record Within (sheet : List ℕ) (p : Reading) : Type 0 where
   pub some_code : 3 ≤ last_number p.last → 1 ≤ p.code_length
   pub short_code : Bytes sheet → p.code_length ≤ 65535
   pub code_first : p.code + p.code_length ≤ p.handlers
-  pub pool_short : 3 ≤ last_number p.last → p.handlers ≤ p.code + p.code_length + 15 * p.used
-  pub indices_short : p.used ≤ 65535
+  pub pool_short : 3 ≤ last_number p.last → p.handlers ≤ p.code + p.code_length + 15 * last_used p
+  pub indices_short : last_used p ≤ 65535
   pub handlers_first : 6 ≤ last_number p.last → p.handlers + 4 ≤ p.arguments
   pub arguments_there : 6 ≤ last_number p.last → p.arguments + 4 * p.argument_count ≤ length sheet
   pub few_arguments : 6 ≤ last_number p.last → p.argument_count ≤ p.max_locals
@@ -138,7 +138,7 @@ module _ (sheet : List ℕ) where
         let w = h.within in
         let here = h.handlers_here since until in
         let indexed = first_passed _ _ _ (first_passed _ _ _ (first_passed _ _ _ c).1).1 in
-        let above = ltb-true p.used (pool_index sheet at) indexed.0 in
+        let above = ltb-true (last_used p) (pool_index sheet at) indexed.0 in
         record {
           within = record {
             code_near = λ b k. w.code_near b since;

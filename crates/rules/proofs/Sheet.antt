@@ -14,7 +14,7 @@ use Rattle.rules.specs.Check.{Check, ◌else◌, ◌>>=◌, ◌>>◌}
 use Rattle.rules.specs.Fetch.{u16}
 use Rattle.rules.specs.Descriptor.{descriptor_check}
 use Rattle.rules.specs.Handlers.{start_pc, end_pc, handler_pc, catch_type}
-use Rattle.rules.specs.Sheet.{body_length, body_at, record_end, known_mark, follows, right_length, descriptor_at, unread, is_described, with_record, pool_index, pool_tag, pool_word, tag_suits, word_suits, is_catch_type, class_from, is_class_at, last_index, argument_count, contents_check, contents_read, marked_check, record_check, end_check, read_from, sheet_check, Pool, with_value, pool_from, loaded_pool, loaded_slots, accepted_load, refused_load, memory_check, load_of}
+use Rattle.rules.specs.Sheet.{body_length, body_at, record_end, known_mark, follows, right_length, descriptor_at, unread, are_taken, last_used, with_record, pool_index, pool_tag, pool_word, tag_suits, word_suits, is_catch_type, class_from, is_class_at, last_index, argument_count, contents_check, contents_read, marked_check, record_check, end_check, read_from, sheet_check, Pool, with_value, pool_from, loaded_pool, loaded_slots, accepted_load, refused_load, memory_check, load_of}
 use Rattle.rules.proofs.Check.{Holds, asked, held, bind_same, Any, Numbered, last_numbered, after_numbered, bound_numbered, asked_numbered, either_numbered, refused_numbered}
 use Rattle.std.specs.Prelude.{Ok, Err}
 use Rattle.rules.specs.declared.refusals.Refusal.{Refusal}
@@ -76,11 +76,11 @@ module _ (sheet : List ℕ) (at : ℕ) (p : Reading) where
     word_unfit h = simp (suits, h)
 
     module _ (worded : word_suits (pool_tag sheet at) (pool_word sheet at) ≡ true) where
-      pub index_used : pool_index sheet at ≤ p.used → contents_check sheet at p KI ≡ Err Refusal.ConstantRecord
+      pub index_used : pool_index sheet at ≤ last_used p → contents_check sheet at p KI ≡ Err Refusal.ConstantRecord
       unfolding contents_check ◌else◌ ◌>>◌
       index_used h = simp (suits, worded, le-ltb _ _ h)
 
-      module _ (above : p.used < pool_index sheet at) where
+      module _ (above : last_used p < pool_index sheet at) where
         pub index_past : 65535 < last_index sheet at → contents_check sheet at p KI ≡ Err Refusal.ConstantRecord
         unfolding contents_check ◌else◌ ◌>>◌
         index_past h = simp (suits, worded, lt-ltb _ _ above, lt-leb _ _ h)
@@ -130,11 +130,11 @@ module _ (sheet : List ℕ) (at : ℕ) (p : Reading) where
 
   module _ (few : argument_count sheet at ≤ p.max_locals) where
     -- 31
-    pub wrong_count : (not (is_described p) || eqb (argument_count sheet at) p.parameter_places) ≡ false → contents_check sheet at p AR ≡ Err Refusal.Descriptor
+    pub wrong_count : are_taken p.descriptor (argument_count sheet at) ≡ false → contents_check sheet at p AR ≡ Err Refusal.Descriptor
     unfolding contents_check ◌else◌ ◌>>◌
     wrong_count h = simp (le-leb _ _ few, h)
 
-    pub arguments_read : (not (is_described p) || eqb (argument_count sheet at) p.parameter_places) ≡ true → contents_check sheet at p AR ≡ Ok tt
+    pub arguments_read : are_taken p.descriptor (argument_count sheet at) ≡ true → contents_check sheet at p AR ≡ Ok tt
     unfolding contents_check ◌else◌ ◌>>◌
     arguments_read h = simp (le-leb _ _ few, h)
 

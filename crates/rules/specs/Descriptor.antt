@@ -4,6 +4,7 @@ use Rattle.std.specs.Prelude.{ℕ, zero, suc, ◌+◌, ◌/◌, ◌%◌, ◌≤�
 use Rattle.values.specs.Kinds.{Kind, int, long, float, double, reference, places_of}
 use Rattle.rules.specs.Check.{Check, ◌else◌, ◌>>◌, ◌≤ⁿ◌, ◌=ⁿ◌}
 use Rattle.rules.specs.Fetch.{u8}
+use Rattle.rules.specs.declared.descriptors.Descriptor.{Descriptor}
 use Rattle.rules.specs.declared.refusals.Refusal.{Refusal}
 
 -- ---- the characters of a descriptor, in ASCII (JVMS, table 4.3-A)
@@ -189,6 +190,10 @@ return_end d at = cond (u8 d at =ⁿ void_type) (at + 1) (field_end d at)
 
 abbrev pub return_type : List ℕ → ℕ
 return_type d = return_letter (u8 d (parameters_end d + 1))
+
+-- what it says where it is one
+abbrev pub descriptor_of : List ℕ → Descriptor
+descriptor_of d = record { places = places_of (parameter_kinds d); return_type = return_type d }
 
 -- is it a method descriptor? 31
 unfoldable pub descriptor_check : List ℕ → Check (Unit {0})

@@ -6,7 +6,7 @@ use Rattle.rules.specs.Check.{Check, ◌≤ⁿ◌, ◌<ⁿ◌, ◌=ⁿ◌}
 use Rattle.rules.specs.Fetch.{u32}
 use Rattle.rules.specs.Questions.{Method, method}
 use Rattle.rules.specs.Step.{Decider, machine_by}
-use Rattle.rules.specs.Sheet.{body_at, record_end, pool_index, pool_tag, is_wide, unread, sheet_check, pool_start, handlers_length, loaded_state}
+use Rattle.rules.specs.Sheet.{body_at, record_end, pool_index, pool_tag, is_wide, unread, sheet_check, pool_start, handlers_length, state_type, loaded_state}
 use Rattle.rules.specs.PlainWalk.{Stage, PlainWalk}
 
 -- how long the lent slices are
@@ -67,7 +67,7 @@ plain_walk_by rules sheet n p =
       machine = machine_by rules (sheet_method sheet p n);
       slots = n.slots;
       log = n.log;
-      state = loaded_state p.max_stack p.max_locals p.return_type;
+      state = loaded_state p.max_stack p.max_locals (state_type p.descriptor);
       first = stage0 sheet p;
     }
 

@@ -1,6 +1,7 @@
 -- The sheet (RULES, 'The sheet'): its records, what is asked of each and of the lent memory, and what an accepted load fills and gives. Assumes nothing.
 use Rattle.std.specs.Prelude.{ℕ, zero, suc, ◌+◌, ◌/◌, ◌%◌, ◌-◌, Bool, true, false, not, ◌&&◌, ◌||◌, cond, List, [], ◌∷◌, ◌++◌, length, take, drop, set, replicate, Ok, Err, Some, None, Option}
-use Rattle.values.specs.Kinds.{places_of}
+use Rattle.std.specs.Option.{unwrap_or}
+use Rattle.rules.specs.declared.descriptors.Descriptor.{Descriptor}
 use Rattle.rules.specs.declared.states.State.{State}
 use Rattle.rules.specs.declared.sheets.Mark.{Mark}
 use Rattle.rules.specs.declared.sheets.Mark.TheVariants.{LM, DS, CD, KI, EX, AR}
@@ -8,7 +9,7 @@ use Rattle.rules.specs.declared.sheets.Reading.{Reading}
 use Rattle.rules.specs.declared.sheets.Loaded.{Loaded}
 use Rattle.rules.specs.Check.{Check, ◌else◌, ◌>>=◌, ◌>>◌, ◌≤ⁿ◌, ◌<ⁿ◌, ◌=ⁿ◌}
 use Rattle.rules.specs.Fetch.{u8, u16, u32}
-use Rattle.rules.specs.Descriptor.{parameter_kinds, return_type, descriptor_check}
+use Rattle.rules.specs.Descriptor.{descriptor_of, descriptor_check}
 use Rattle.rules.specs.Handlers.{start_pc, end_pc, handler_pc, catch_type, class_tag}
 use Rattle.rules.specs.declared.refusals.Refusal.{Refusal}
 
@@ -126,18 +127,17 @@ unread =
       last = None;
       max_stack = 0;
       max_locals = 0;
-      parameter_places = 0;
-      return_type = 0;
+      descriptor = None;
       code = 0;
       code_length = 0;
-      used = 0;
+      used = None;
       handlers = 0;
       arguments = 0;
       argument_count = 0;
     }
 
 -- what a record of this mark says, where it is such a record, and else what was known
-abbrev pub by : Mark → Mark → ℕ → ℕ → ℕ
+abbrev pub by : {A : Type 0} → Mark → Mark → A → A → A
 by this m new old = cond (mark_number m =ⁿ mark_number this) new old
 
 -- each field, with the record that says it
@@ -147,19 +147,33 @@ with_record sheet at m p =
       last = Some m;
       max_stack = by LM m (limit_stack sheet at) p.max_stack;
       max_locals = by LM m (limit_locals sheet at) p.max_locals;
-      parameter_places = by DS m (places_of (parameter_kinds (descriptor_at sheet at))) p.parameter_places;
-      return_type = by DS m (return_type (descriptor_at sheet at)) p.return_type;
+      descriptor = by DS m (Some (descriptor_of (descriptor_at sheet at))) p.descriptor;
       code = by CD m (body_at at) p.code;
       code_length = by CD m (body_length sheet at) p.code_length;
-      used = by KI m (last_index sheet at) p.used;
+      used = by KI m (Some (last_index sheet at)) p.used;
       handlers = by CD m (record_end sheet at) (by KI m (record_end sheet at) p.handlers);
       arguments = by AR m (body_at at) p.arguments;
       argument_count = by AR m (argument_count sheet at) p.argument_count;
     }
 
--- a DS record was read: no return type is 0
-abbrev pub is_described : Reading → Bool
-is_described p = 0 <ⁿ p.return_type
+-- as many argument words as the parameters take, if there is a descriptor
+abbrev pub are_taken : Option Descriptor → ℕ → Bool
+are_taken None n = true
+are_taken (Some d) n = n =ⁿ d.places
+
+-- the return type that a state has: 0 where there is no descriptor
+abbrev pub state_type : Option Descriptor → ℕ
+state_type None = 0
+state_type (Some d) = d.return_type
+
+-- the highest index that is used: 0, which no constant has, where there is none yet
+abbrev pub last_used : Reading → ℕ
+last_used p = unwrap_or p.used 0
+
+-- an index below a length, if there is one
+abbrev pub is_below : Option ℕ → ℕ → Bool
+is_below None n = true
+is_below (Some i) n = i <ⁿ n
 
 -- the KI records stand between the code and the handlers
 abbrev pub pool_start : Reading → ℕ
@@ -188,7 +202,7 @@ contents_check sheet at p CD = Ok tt
 contents_check sheet at p KI = do
   tag_suits (pool_tag sheet at) (body_length sheet at) else Refusal.ConstantRecord
   word_suits (pool_tag sheet at) (pool_word sheet at) else Refusal.ConstantRecord
-  p.used <ⁿ pool_index sheet at else Refusal.ConstantRecord
+  last_used p <ⁿ pool_index sheet at else Refusal.ConstantRecord
   last_index sheet at ≤ⁿ 65535 else Refusal.ConstantRecord
 contents_check sheet at p EX = do
   body_length sheet at =ⁿ 8 else Refusal.HandlerRecord
@@ -199,7 +213,7 @@ contents_check sheet at p EX = do
   is_catch_type sheet p (catch_type sheet at) else Refusal.HandlerRecord
 contents_check sheet at p AR = do
   argument_count sheet at ≤ⁿ p.max_locals else Refusal.TooManyArguments
-  not (is_described p) || (argument_count sheet at =ⁿ p.parameter_places) else Refusal.Descriptor
+  are_taken p.descriptor (argument_count sheet at) else Refusal.Descriptor
 
 -- then what it adds to what has been read
 abbrev pub contents_read : List ℕ → ℕ → Reading → Mark → Check Reading
@@ -242,7 +256,7 @@ sheet_check sheet = read_from (length sheet) sheet 0 unread
 unfoldable pub memory_check : Reading → List ℕ → List ℕ → List ℕ → Check (Unit {0})
 memory_check p slots kinds words = do
   p.max_locals + p.max_stack ≤ⁿ length slots else Refusal.LentMemory
-  (p.used =ⁿ 0) || (p.used <ⁿ length kinds) else Refusal.LentMemory
+  is_below p.used (length kinds) else Refusal.LentMemory
   length kinds =ⁿ length words else Refusal.LentMemory
   length kinds ≤ⁿ 65536 else Refusal.LentMemory
 
@@ -311,7 +325,7 @@ abbrev pub accepted_load : Reading → Loaded
 accepted_load p =
     record {
       answer = Ok tt;
-      state = loaded_state p.max_stack p.max_locals p.return_type;
+      state = loaded_state p.max_stack p.max_locals (state_type p.descriptor);
       code = p.code;
       code_length = p.code_length;
       handlers = p.handlers;

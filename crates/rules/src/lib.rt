@@ -1,6 +1,7 @@
 // The types that the rules speak of; the rules themselves are in specs/.
 #![tactic(auto)]
 
+pub mod descriptors;
 mod halts;
 pub mod letters;
 mod methods;

@@ -1,4 +1,5 @@
 // What a sheet says, and what a load of one gives.
+use crate::descriptors::Descriptor;
 use crate::refusals::Refusal;
 use crate::states::State;
 
@@ -13,19 +14,17 @@ pub enum Mark {
     AR,
 }
 
-// What has been read of a sheet: the last record's mark, the method's sizes, its parameters' places and its return type, both 0 without a descriptor,
-// where its code begins in the sheet and how long it is, the highest pool index used, where the handlers begin, which end at the AR record, and where the argument
-// words begin and how many there are.
+// What has been read of a sheet: the last record's mark, the method's sizes, what its descriptor says, where its code begins in the sheet and how long it is, the
+// highest pool index used, where the handlers begin, which end at the AR record, and where the argument words begin and how many there are.
 #[derive(Clone, Copy, Default)]
 pub struct Reading {
     pub last: Option<Mark>,
     pub max_stack: u16,
     pub max_locals: u16,
-    pub parameter_places: u32,
-    pub return_type: u32,
+    pub descriptor: Option<Descriptor>,
     pub code: usize,
     pub code_length: usize,
-    pub used: u32,
+    pub used: Option<u32>,
     pub handlers: usize,
     pub arguments: usize,
     pub argument_count: usize,

@@ -10,23 +10,23 @@ use Rattle.rules.specs.declared.sheets.Mark.TheVariants.{DS}
 use Rattle.rules.specs.declared.sheets.Reading.{Reading}
 use Rattle.rules.specs.declared.refusals.Refusal.{Refusal}
 use Rattle.rules.specs.Check.{Check, ◌>>◌}
-use Rattle.rules.specs.Descriptor.{descriptor_check}
+use Rattle.rules.specs.Descriptor.{descriptor_of, descriptor_check}
 use Rattle.rules.specs.Sheet.{descriptor_at, with_record, contents_check, contents_read, memory_check, last_number, sheet_check}
 use Rattle.rules.proofs.Check.{first_passed}
 use Rattle.rules.proofs.Placement.{sheet_within}
-use Rattle.descriptor.specs.declared.descriptors.Descriptor.{Descriptor}
-use Rattle.descriptor.specs.Answers.{descriptor_of, described}
+use Rattle.rules.specs.declared.descriptors.Descriptor.{Descriptor}
+use Rattle.descriptor.specs.Answers.{described}
 
 -- ---- a DS record, by what its descriptor says
 
 module _ (sheet : List ℕ) (at : ℕ) (p : Reading) where
   pub types_read : (d : List ℕ) (x : Descriptor) → Ok x ≡ described d → d ≡ descriptor_at sheet at
-      → Ok (record p { last = Some DS; parameter_places = x.places; return_type = x.return_type }) ≡ contents_read sheet at p DS
+      → Ok (record p { last = Some DS; descriptor = Some x }) ≡ contents_read sheet at p DS
   unfolding contents_check with_record ◌>>◌
   types_read d x e same = go (descriptor_check (descriptor_at sheet at)) (subst (λ (b : List ℕ). Ok x ≡ described b) same e)
     where
       go : (y : Check (Unit {0})) → Ok x ≡ (y >> Ok (descriptor_of (descriptor_at sheet at)))
-          → Ok (record p { last = Some DS; parameter_places = x.places; return_type = x.return_type }) ≡ (y >> Ok (with_record sheet at DS p))
+          → Ok (record p { last = Some DS; descriptor = Some x }) ≡ (y >> Ok (with_record sheet at DS p))
       go (Ok t) e = let f : x ≡ descriptor_of (descriptor_at sheet at) = cc in rw f
       go (Err k) e = cc
 

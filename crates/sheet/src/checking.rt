@@ -82,9 +82,9 @@ pub fn check_sheet(sheet: &[u8]) -> Result<Reading, Refusal>
 pub(crate) fn is_enough(p: &Reading, slots: &[u32], kinds: &[u8], words: &[u32]) -> bool
     ensures { result ≡ is_enough p.now slots.now kinds.now words.now }
 {
-    let frame = p.max_locals as usize + p.max_stack as usize;
+    let frame = usize::from(p.max_locals) + usize::from(p.max_stack);
     frame <= slots.len()
-        && (p.used == 0 || (p.used as usize) < kinds.len())
+        && p.used.is_none_or(|used| (used as usize) < kinds.len())
         && kinds.len() == words.len()
         && kinds.len() <= 65536
 }

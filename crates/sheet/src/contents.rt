@@ -1,8 +1,7 @@
 // What a record of each mark is asked, and what it adds to what has been read.
-ghost use Rattle.std.specs.Prelude.{◌≡◌, not, ◌||◌};
+ghost use Rattle.std.specs.Prelude.{◌≡◌};
 ghost use Rattle.rules.specs.declared.sheets.Mark.TheVariants.{LM, DS, CD, KI, AR};
-ghost use Rattle.rules.specs.Check.{◌=ⁿ◌};
-ghost use Rattle.rules.specs.Sheet.{is_described, contents_check, contents_read};
+ghost use Rattle.rules.specs.Sheet.{are_taken, contents_check, contents_read};
 ghost use Rattle.sheet.specs.Rows.{is_constant};
 
 use crate::marks::{tag_suits, word_suits};
@@ -31,11 +30,10 @@ pub(crate) fn read_sizes(next: &NextRecord) -> Result<Reading, Refusal>
 pub(crate) fn read_types(next: &NextRecord) -> Result<Reading, Refusal>
     ensures { result ≡ contents_read next.now.record.sheet.now next.now.record.at next.now.before DS }
 {
-    let described = read_descriptor(next.record.descriptor())?;
+    let descriptor = read_descriptor(next.record.descriptor())?;
     Ok(Reading {
         last: Some(Mark::DS),
-        parameter_places: described.places,
-        return_type: described.return_type,
+        descriptor: Some(descriptor),
         ..next.before
     })
 }
@@ -47,7 +45,7 @@ pub(crate) fn read_code(next: &NextRecord) -> Result<Reading, Refusal>
     Ok(Reading {
         last: Some(Mark::CD),
         code: next.record.body(),
-        code_length: next.record.body_length() as usize,
+        code_length: usize::from(next.record.body_length()),
         handlers: next.record.end(),
         ..next.before
     })
@@ -60,7 +58,7 @@ fn is_constant(next: &NextRecord) -> bool
     let tag = next.record.tag();
     tag_suits(tag, next.record.body_length())
         && word_suits(tag, next.record.word())
-        && next.before.used < next.record.pool_index() as u32
+        && next.before.used.unwrap_or(0) < u32::from(next.record.pool_index())
         && next.record.last_index() <= 65535
 }
 
@@ -73,17 +71,18 @@ pub(crate) fn read_constant(next: &NextRecord) -> Result<Reading, Refusal>
     }
     Ok(Reading {
         last: Some(Mark::KI),
-        used: next.record.last_index(),
+        used: Some(next.record.last_index()),
         handlers: next.record.end(),
         ..next.before
     })
 }
 
 // Whether a number of argument words is what the descriptor's parameters take, if there is a descriptor.
-fn is_taken(p: &Reading, count: u16) -> bool
-    ensures { result ≡ (not (is_described p.now) || (count =ⁿ p.now.parameter_places)) }
+fn are_taken(p: &Reading, count: u16) -> bool
+    ensures { result ≡ are_taken p.now.descriptor count }
 {
-    p.return_type == 0 || count as u32 == p.parameter_places
+    p.descriptor
+        .is_none_or(|descriptor| u32::from(count) == descriptor.places)
 }
 
 // AR: at most as many words as there are locals, and as many as the parameters take.
@@ -94,7 +93,7 @@ fn check_arguments(next: &NextRecord) -> Result<(), Refusal>
     if count > next.before.max_locals {
         return Err(Refusal::TooManyArguments);
     }
-    if !is_taken(&next.before, count) {
+    if !are_taken(&next.before, count) {
         return Err(Refusal::Descriptor);
     }
     Ok(())
@@ -108,7 +107,7 @@ pub(crate) fn read_arguments(next: &NextRecord) -> Result<Reading, Refusal>
     Ok(Reading {
         last: Some(Mark::AR),
         arguments: next.record.body(),
-        argument_count: next.record.body_length() as usize / 4,
+        argument_count: usize::from(next.record.body_length()) / 4,
         ..next.before
     })
 }

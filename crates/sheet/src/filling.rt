@@ -21,14 +21,14 @@ fn put<T: Copy>(target: &mut [T], index: usize, value: T)
 fn enter_kind(constant: &Record, kinds: &mut [u8])
     ensures { kinds.new ≡ with_kind constant.now.sheet.now constant.now.at kinds.old }
 {
-    put(kinds, constant.pool_index() as usize, constant.tag());
+    put(kinds, usize::from(constant.pool_index()), constant.tag());
 }
 
 // The words of a KI record: a value of eight bytes has its high word first.
 fn enter_words(constant: &Record, words: &mut [u32])
     ensures { words.new ≡ with_words constant.now.sheet.now constant.now.at words.old }
 {
-    let index = constant.pool_index() as usize;
+    let index = usize::from(constant.pool_index());
     let first = constant.word();
     if constant.is_wide() {
         put(words, index, constant.second_word());
@@ -72,7 +72,7 @@ pub(crate) fn fill_slots(sheet: &[u8], p: Reading, slots: &mut [u32])
     requires { (p.arguments + 4 * p.argument_count ≤ length sheet.now) × (p.argument_count ≤ p.max_locals) × (p.max_locals + p.max_stack ≤ length slots.old) }
     ensures { slots.new ≡ loaded_slots sheet.now p slots.old }
 {
-    let end = p.max_locals as usize + p.max_stack as usize;
+    let end = usize::from(p.max_locals) + usize::from(p.max_stack);
     write_arguments(sheet, p.arguments, &mut slots[..p.argument_count]);
     slots[p.argument_count..end].fill(0);
 }

@@ -39,9 +39,9 @@ fn is_handler(next: &NextRecord) -> bool
     let end = next.record.u16_at(END_PC);
     next.record.body_length() == 8
         && start < end
-        && (start as usize) < next.before.code_length
-        && (next.record.u16_at(HANDLER_PC) as usize) < next.before.code_length
-        && end as usize <= next.before.code_length
+        && usize::from(start) < next.before.code_length
+        && usize::from(next.record.u16_at(HANDLER_PC)) < next.before.code_length
+        && usize::from(end) <= next.before.code_length
         && is_catch_type(next, next.record.u16_at(CATCH_TYPE))
 }
 

@@ -1,11 +1,12 @@
 // Loading a sheet: checked whole first, filled after.
 ghost use Rattle.std.specs.Prelude.{◌≡◌, ◌+◌, ◌≤◌};
-ghost use Rattle.rules.specs.Sheet.{sheet_check, loaded_state, accepted_load, refused_load, load_of, part_of, code_of, handlers_of};
+ghost use Rattle.rules.specs.Sheet.{sheet_check, state_type, loaded_state, accepted_load, refused_load, load_of, part_of, code_of, handlers_of};
 ghost use Rattle.sheet.specs.Filled.{after_load};
 
 use crate::checking::{check_sheet, is_enough};
 use crate::filling::{fill_pool, fill_slots};
 use crate::records::Records;
+use rules::descriptors::Descriptor;
 use rules::{Loaded, Reading, Refusal, State};
 
 // The state of a method that is loaded. Every first state is made here.
@@ -36,6 +37,13 @@ fn refused_load(refusal: Refusal) -> Loaded
     }
 }
 
+// The return type that a state has, a number: 0 where there is no descriptor.
+fn state_type(descriptor: Option<Descriptor>) -> u32
+    ensures { result ≡ state_type descriptor }
+{
+    descriptor.map_or(0, |descriptor| descriptor.return_type)
+}
+
 // What an accepted load gives.
 fn accepted_load(p: Reading) -> Loaded
     requires { p.handlers + 4 ≤ p.arguments }
@@ -43,7 +51,7 @@ fn accepted_load(p: Reading) -> Loaded
 {
     Loaded {
         answer: Ok(()),
-        state: loaded_state(p.max_stack, p.max_locals, p.return_type),
+        state: loaded_state(p.max_stack, p.max_locals, state_type(p.descriptor)),
         code: p.code,
         code_length: p.code_length,
         handlers: p.handlers,

@@ -50,7 +50,7 @@ impl<'a> Record<'a> {
     pub(crate) fn end(&self) -> usize
         ensures { result ≡ record_end self.now.sheet.now self.now.at }
     {
-        self.at + 4 + self.body_length() as usize
+        self.at + 4 + usize::from(self.body_length())
     }
 
     // Of a DS record: the method descriptor.
@@ -102,7 +102,7 @@ impl<'a> Record<'a> {
     pub(crate) fn last_index(&self) -> u32
         ensures { result ≡ last_index self.now.sheet.now self.now.at }
     {
-        let index = self.pool_index() as u32;
+        let index = u32::from(self.pool_index());
         if self.is_wide() { index + 1 } else { index }
     }
 

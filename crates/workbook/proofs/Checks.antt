@@ -1,20 +1,18 @@
 -- What is asked of the lent words before a call, and a call by the answers. Assumes nothing.
 use Prim.Native.Nat.{ℕ, ◌^◌, ◌≤◌, ◌<◌}
-use mathlib.Core.Path.{◌≡◌, refl, sym, ap}
+use mathlib.Core.Path.{◌≡◌, refl, sym}
 use mathlib.Core.Bool.{Bool, true, false}
-use mathlib.Core.List.{List, []}
+use mathlib.Core.List.{List}
 use native.Mathlib.Omega.{arith}
 use lib.Dec.{ltb, leb}
 use lib.ListN.{length, get_or}
 use borrow.Author.Tests.{ltb-true, leb-true, leb-false, lt-leb, le-leb, lt-ltb, le-ltb}
 use Rattle.rules.specs.declared.sheets.Reading.{Reading}
-use Rattle.rules.specs.Check.{Check, ◌else◌, ◌>>◌, is_passed}
-use Rattle.rules.specs.Step.{Stepped}
+use Rattle.rules.specs.Check.{◌else◌, ◌>>◌, is_passed}
 use Rattle.rules.specs.Sheet.{handlers_length}
-use Rattle.rules.specs.History.{AfterPress}
 use Rattle.rules.proofs.Check.{first_passed, last_passed, last_asked, is_passed_lem}
 use Rattle.workbook.specs.StateWords.{state_size, lengths_check, sizes_check}
-use Rattle.workbook.specs.Calls.{unchanged, call_by, step_call_by, words_check}
+use Rattle.workbook.specs.Calls.{words_check}
 use Rattle.std.specs.Prelude.{Ok, Err}
 use Rattle.rules.specs.declared.refusals.Refusal.{Refusal}
 
@@ -87,27 +85,6 @@ module _ (state answer : List ℕ) (p : Reading) where
       let b = first_passed _ _ _ a.1 in
       (leb-true _ _ a.0, leb-true _ _ b.0, ltb-true _ _ (last_passed _ _ b.1))
 
--- ---- the sizes
-
-module _ (ws : List ℕ) where
-  pub stack_large : 65535 < get_or ws 0 0 → false ≡ is_passed (sizes_check ws)
-  unfolding sizes_check ◌else◌ ◌>>◌
-  stack_large h = simp (lt-leb _ _ h)
-
-  pub stack_fits : get_or ws 0 0 ≤ 65535 → leb (get_or ws 1 0) 65535 ≡ is_passed (sizes_check ws)
-  unfolding sizes_check ◌else◌ ◌>>◌
-  stack_fits h = simp (le-leb _ _ h) (last_asked _ _)
-
-  pub sizes_no : is_passed (sizes_check ws) ≡ false → sizes_check ws ≡ Err Refusal.Lengths
-  unfolding sizes_check
-  sizes_no e = two_no _ _ e
-
-  pub sizes_yes : is_passed (sizes_check ws) ≡ true → (get_or ws 0 0 ≤ 65535) × (get_or ws 1 0 ≤ 65535)
-  unfolding sizes_check
-  sizes_yes e =
-      let a = first_passed _ _ _ (is_passed_lem (sizes_check ws) e) in
-      (leb-true _ _ a.0, leb-true _ _ (last_passed _ _ a.1))
-
 -- what passes them
 pub lengths_pass : (state answer : List ℕ) (n : ℕ) → state_size ≤ length state → n ≤ length answer → lengths_check state answer n ≡ Ok tt
 unfolding lengths_check ◌else◌ ◌>>◌
@@ -116,23 +93,3 @@ lengths_pass state answer n h k = simp (le-leb _ _ h, le-leb _ _ k)
 pub sizes_pass : (ws : List ℕ) → get_or ws 0 0 ≤ 65535 → get_or ws 1 0 ≤ 65535 → sizes_check ws ≡ Ok tt
 unfolding sizes_check ◌else◌ ◌>>◌
 sizes_pass ws h k = simp (le-leb _ _ h, le-leb _ _ k)
-
--- ---- a call
-
-module _ (slots log state answer : List ℕ) (o : AfterPress) (x y : Check (Unit {0})) where
-  pub first_no : x ≡ Err Refusal.Lengths → unchanged slots log state answer 1 ≡ call_by slots log state answer o (x >> y)
-  unfolding ◌>>◌
-  first_no e = rw e
-
-  pub second_no : x ≡ Ok tt → y ≡ Err Refusal.Lengths → unchanged slots log state answer 1 ≡ call_by slots log state answer o (x >> y)
-  unfolding ◌>>◌
-  second_no e f = rw (e, f)
-
-module _ (slots state answer : List ℕ) (r : Stepped) (x y : Check (Unit {0})) where
-  pub no_step : x ≡ Err Refusal.Lengths → unchanged slots [] state answer 1 ≡ step_call_by slots state answer r (x >> y)
-  unfolding ◌>>◌
-  no_step e = rw e
-
-  pub no_step_second : x ≡ Ok tt → y ≡ Err Refusal.Lengths → unchanged slots [] state answer 1 ≡ step_call_by slots state answer r (x >> y)
-  unfolding ◌>>◌
-  no_step_second e f = rw (e, f)

@@ -1,4 +1,5 @@
 mod Checks
+mod StateRead
 mod Kept
 mod LoadedWords
 mod Made

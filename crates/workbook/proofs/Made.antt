@@ -1,9 +1,10 @@
 -- Calls that are made, by what the library's functions gave and wrote. Assumes nothing.
-use Prim.Native.Nat.{ℕ, ◌≤◌, ◌<◌}
+use Prim.Native.Nat.{ℕ, ◌≤◌}
 use mathlib.Core.Path.{◌≡◌, refl}
 use mathlib.Core.List.{List, []}
 use lib.ListN.{length}
-use borrow.Author.Tests.{le-leb, lt-leb}
+use lib.Dec.{leb}
+use borrow.Author.Tests.{le-leb}
 use Rattle.rules.specs.declared.states.State.{State}
 use Rattle.rules.specs.declared.Answer.{Answer}
 use Rattle.rules.specs.Check.{◌else◌, ◌>>◌}
@@ -16,6 +17,7 @@ use Rattle.workbook.specs.StateWords.{state_in, state_size, with_state, lengths_
 use Rattle.workbook.specs.Calls.{state_after, answer_after, unchanged, step_call, forward_call, back_call, with_steps, run_call}
 use Rattle.std.specs.Prelude.{Ok, Err}
 use Rattle.rules.specs.declared.refusals.Refusal.{Refusal}
+use Rattle.rules.specs.Refusals.{number_of}
 use Rattle.rules.specs.Decisions.{Decision, End, Pressed}
 
 -- a step has the number that it has as a press
@@ -42,15 +44,21 @@ module _ (x : Machine) (slots log state answer : List ℕ) (sizes : sizes_check 
   unfolding back_call ◌else◌ ◌>>◌
   back_made h e = rw (le-leb state_size (length state) h, sizes, ← e, numbered, stated)
 
--- a back that is not made
-module _ (l : Method) (slots log state : List ℕ) where
-  pub back_short : length state < state_size → unchanged slots log state [] 1 ≡ back_call l slots log state
-  unfolding back_call ◌else◌ ◌>>◌
-  back_short h = rw (lt-leb state_size (length state) h)
+-- a press that is not made
+module _ (k : Refusal) where
+  module _ (x : Machine) (slots log state answer : List ℕ) (e : (lengths_check state answer 4 >> sizes_check state) ≡ Err k) where
+    pub step_refused : unchanged slots [] state answer (number_of k) ≡ step_call x slots state answer
+    unfolding step_call
+    step_refused = rw e
 
-  pub back_sizes : state_size ≤ length state → sizes_check state ≡ Err Refusal.Lengths → unchanged slots log state [] 1 ≡ back_call l slots log state
-  unfolding back_call ◌else◌ ◌>>◌
-  back_sizes h e = rw (le-leb state_size (length state) h, e)
+    pub forward_refused : unchanged slots log state answer (number_of k) ≡ forward_call x slots log state answer
+    unfolding forward_call
+    forward_refused = rw e
+
+  pub back_refused : (l : Method) (slots log state : List ℕ) → ((leb state_size (length state) else Refusal.Lengths) >> sizes_check state) ≡ Err k
+      → unchanged slots log state [] (number_of k) ≡ back_call l slots log state
+  unfolding back_call
+  back_refused l slots log state e = rw e
 
 -- a run
 module _ (x : Machine) (slots state answer : List ℕ) (budget : ℕ) where
@@ -59,10 +67,10 @@ module _ (x : Machine) (slots state answer : List ℕ) (budget : ℕ) where
   run_short e = rw e
 
   module _ (lengths : lengths_check state answer 4 ≡ Ok tt) where
-    pub run_sizes : sizes_check state ≡ Err Refusal.Lengths → (answer' : List ℕ) → answer' ≡ with_steps answer 0 0 0
-        → record { number = 1; slots = slots; log = []; state = state; answer = answer' } ≡ run_call x slots state answer budget
+    pub run_sizes : (k : Refusal) → sizes_check state ≡ Err k → (answer' : List ℕ) → answer' ≡ with_steps answer 0 0 0
+        → record { number = number_of k; slots = slots; log = []; state = state; answer = answer' } ≡ run_call x slots state answer budget
     unfolding run_call
-    run_sizes e answer' f = rw (lengths, e, f)
+    run_sizes k e answer' f = rw (lengths, e, f)
 
     pub run_made : sizes_check state ≡ Ok tt → (s : State) (steps : ℕ) (end : End) (after state' answer' : List ℕ) (e : Answer)
         → record { state = s; steps = steps; end = end; slots = after } ≡ run_of x budget (state_in state) slots → e ≡ end_answer end

@@ -74,10 +74,10 @@ module _ (x : Machine) (slots log state bytes answers : List ℕ) where
     few_state h = rw (le-leb (3 * length bytes) (length answers) room, lt-leb state_size (length state) h)
 
     module _ (enough : state_size ≤ length state) where
-      pub no_state : sizes_check state ≡ Err Refusal.Lengths → (log' answers' : List ℕ) → log' ≡ log → answers' ≡ paste answers 0 (answers_words (all_refused bytes)) (3 * length bytes)
+      pub no_state : (k : Refusal) → sizes_check state ≡ Err k → (log' answers' : List ℕ) → log' ≡ log → answers' ≡ paste answers 0 (answers_words (all_refused bytes)) (3 * length bytes)
           → record { number = 0; slots = slots; log = log'; state = state; answer = answers' } ≡ presses_call x slots log state bytes answers
       unfolding presses_call ◌else◌ ◌>>◌
-      no_state e log' answers' f g = rw (le-leb (3 * length bytes) (length answers) room, le-leb state_size (length state) enough, e, f, g)
+      no_state k e log' answers' f g = rw (le-leb (3 * length bytes) (length answers) room, le-leb state_size (length state) enough, e, f, g)
 
       pub list_made : sizes_check state ≡ Ok tt → (number : ℕ) (s : State) (after log' state' answers' : List ℕ)
           → record { number = number; state = s; slots = after; log = log'; answers = answers' } ≡ replay_of x bytes (state_in state) slots log answers → state' ≡ with_state state s

@@ -1,5 +1,5 @@
 -- A state as seven lent words. Assumes nothing.
-use Rattle.std.specs.Prelude.{ℕ, ◌+◌, ◌*◌, ◌/◌, ◌%◌, ◌^◌, List, [], ◌∷◌, length, get_or}
+use Rattle.std.specs.Prelude.{ℕ, ◌+◌, ◌*◌, ◌/◌, ◌%◌, ◌^◌, List, [], ◌∷◌, length, get_or, Ok}
 use Rattle.std.proofs.Math.Seq.{paste}
 use Rattle.rules.specs.declared.states.State.{State}
 use Rattle.rules.specs.Check.{Check, ◌else◌, ◌>>◌, ◌≤ⁿ◌}
@@ -38,3 +38,22 @@ unfoldable pub sizes_check : List ℕ → Check (Unit {0})
 sizes_check ws = do
   get_or ws 0 0 ≤ⁿ 65535 else Refusal.Lengths
   get_or ws 1 0 ≤ⁿ 65535 else Refusal.Lengths
+
+-- a word as one of the two sizes
+abbrev pub size_read : ℕ → Check ℕ
+size_read word = do
+  word ≤ⁿ 65535 else Refusal.Lengths
+  Ok word
+
+-- the state in the words where these questions pass, without answer words and with four
+unfoldable pub state_read : List ℕ → Check State
+state_read ws = do
+  state_size ≤ⁿ length ws else Refusal.Lengths
+  sizes_check ws
+  Ok (state_in ws)
+
+unfoldable pub lent_read : List ℕ → List ℕ → Check State
+lent_read state answer = do
+  lengths_check state answer 4
+  sizes_check state
+  Ok (state_in state)

@@ -7,7 +7,7 @@ ghost use Rattle.rules.specs.Presses.{answers_words};
 ghost use Rattle.workbook.specs.Calls.{all_refused, presses_call};
 ghost use Rattle.workbook.specs.Demand3.{FromAnyLoadCall};
 
-use crate::state_words::{STATE_WORDS, read_state, sizes_fit, write_state};
+use crate::state_words::{STATE_WORDS, read_state, write_state};
 use history::presses;
 use rules::{Method, Refusal};
 use sheet::loaded_state;
@@ -57,11 +57,11 @@ pub extern "C" fn workbook_presses(
         words,
         handlers,
     };
-    if !sizes_fit(state) {
+    let Ok(s) = read_state(state) else {
         refuse_presses(&method, log, bytes, answers);
         return 0;
-    }
-    let made = presses(&method, slots, log, read_state(state), bytes, answers);
+    };
+    let made = presses(&method, slots, log, s, bytes, answers);
     match made {
         Ok(after) => {
             write_state(state, after);

@@ -16,7 +16,7 @@ fn has_words(state: &[u32], answer: &[u32], p: Reading) -> bool
     requires { p.handlers + 4 ≤ p.arguments }
     ensures { result ≡ is_passed (words_check state.now answer.now p) }
 {
-    if !are_lent(state, answer, ANSWER_WORDS) {
+    if !are_lent(state, answer) {
         return false;
     }
     p.arguments - 4 - p.handlers <= 0xFFFF_FFFF

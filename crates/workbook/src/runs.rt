@@ -4,7 +4,7 @@ ghost use Rattle.rules.specs.Step.{machine};
 ghost use Rattle.workbook.specs.Calls.{run_call};
 
 use crate::leaving::{end_answer, write_steps};
-use crate::state_words::{ANSWER_WORDS, are_lent, read_state, sizes_fit, write_state};
+use crate::state_words::{are_lent, read_state, write_state};
 use interpreter::run;
 use rules::{Method, Refusal};
 
@@ -22,20 +22,23 @@ pub extern "C" fn workbook_run(
 ) -> u32
     ensures { record { number = result; slots = slots.new; log = []; state = state.new; answer = answer.new } ≡ run_call (machine code.now kinds.now words.now handlers.now) slots.old state.old answer.old budget }
 {
-    if !are_lent(state, answer, ANSWER_WORDS) {
+    if !are_lent(state, answer) {
         return Refusal::Lengths.number();
     }
-    if !sizes_fit(state) {
-        write_steps(answer, 0, 0, 0);
-        return Refusal::Lengths.number();
-    }
+    let s = match read_state(state) {
+        Ok(s) => s,
+        Err(refusal) => {
+            write_steps(answer, 0, 0, 0);
+            return refusal.number();
+        }
+    };
     let method = Method {
         code,
         kinds,
         words,
         handlers,
     };
-    let ran = run(&method, slots, read_state(state), budget);
+    let ran = run(&method, slots, s, budget);
     let ended = ran.end;
     let end = end_answer(ended);
     write_state(state, ran.state);

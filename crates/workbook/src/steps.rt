@@ -5,10 +5,10 @@ ghost use Rattle.rules.specs.Step.{machine};
 ghost use Rattle.workbook.specs.Calls.{step_call, forward_call, back_call};
 
 use crate::leaving::{leave, leave_value};
-use crate::state_words::{ANSWER_WORDS, STATE_WORDS, are_lent, read_state, sizes_fit};
+use crate::state_words::{lent_state, read_state};
 use history::{back, forward, pressed_by};
 use interpreter::step;
-use rules::{Method, Refusal};
+use rules::Method;
 
 // A step without history.
 #[unsafe(no_mangle)]
@@ -23,19 +23,17 @@ pub extern "C" fn workbook_step(
 ) -> u32
     ensures { record { number = result; slots = slots.new; log = []; state = state.new; answer = answer.new } ≡ step_call (machine code.now kinds.now words.now handlers.now) slots.old state.old answer.old }
 {
-    if !are_lent(state, answer, ANSWER_WORDS) {
-        return Refusal::Lengths.number();
-    }
-    if !sizes_fit(state) {
-        return Refusal::Lengths.number();
-    }
+    let s = match lent_state(state, answer) {
+        Ok(s) => s,
+        Err(refusal) => return refusal.number(),
+    };
     let method = Method {
         code,
         kinds,
         words,
         handlers,
     };
-    let stepped = step(&method, slots, read_state(state));
+    let stepped = step(&method, slots, s);
     let decision = stepped.decision;
     let a = pressed_by(decision);
     leave_value(answer, a);
@@ -56,19 +54,17 @@ pub extern "C" fn workbook_forward(
 ) -> u32
     ensures { record { number = result; slots = slots.new; log = log.new; state = state.new; answer = answer.new } ≡ forward_call (machine code.now kinds.now words.now handlers.now) slots.old log.old state.old answer.old }
 {
-    if !are_lent(state, answer, ANSWER_WORDS) {
-        return Refusal::Lengths.number();
-    }
-    if !sizes_fit(state) {
-        return Refusal::Lengths.number();
-    }
+    let s = match lent_state(state, answer) {
+        Ok(s) => s,
+        Err(refusal) => return refusal.number(),
+    };
     let method = Method {
         code,
         kinds,
         words,
         handlers,
     };
-    let press = forward(&method, slots, log, read_state(state));
+    let press = forward(&method, slots, log, s);
     let a = press.answer;
     leave_value(answer, a);
     leave(state, press.state, a)
@@ -86,19 +82,17 @@ pub extern "C" fn workbook_back(
 ) -> u32
     ensures { (handlers : List ℕ) → record { number = result; slots = slots.new; log = log.now; state = state.new; answer = [] } ≡ back_call (method code.now kinds.now words.now handlers) slots.old log.now state.old }
 {
-    if state.len() < STATE_WORDS {
-        return Refusal::Lengths.number();
-    }
-    if !sizes_fit(state) {
-        return Refusal::Lengths.number();
-    }
+    let s = match read_state(state) {
+        Ok(s) => s,
+        Err(refusal) => return refusal.number(),
+    };
     let method = Method {
         code,
         kinds,
         words,
         handlers: &[],
     };
-    let press = back(&method, slots, log, read_state(state));
+    let press = back(&method, slots, log, s);
     let a = press.answer;
     leave(state, press.state, a)
 }

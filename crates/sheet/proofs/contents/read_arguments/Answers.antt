@@ -14,4 +14,4 @@ returns-in_err-check_arguments c = let n = c.args.next.now in
 pub returns : goal.returns
 unfolding with_record
 returns c = let n = c.args.next.now in
-    sym (good_contents n.record.sheet.now n.record.at n.before AR (sym c.in_ok-check_arguments.ensures) ∙ simp (← c.body.ensures, ← c.body_length.ensures))
+    sym (good_contents n.record.sheet.now n.record.at n.before AR (sym c.in_ok-check_arguments.ensures) ∙ simp (← c.body.ensures, ← c.body_length.ensures, c.from.ensures))

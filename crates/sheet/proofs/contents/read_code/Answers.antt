@@ -5,4 +5,4 @@ use Rattle.sheet.proofs.contents.read_code.Goals as goal
 
 pub returns : goal.returns
 unfolding contents_check with_record ◌>>◌
-returns c = simp (c.body.ensures, c.body_length.ensures, c.end.ensures)
+returns c = simp (c.body.ensures, c.from.ensures, c.body_length.ensures, c.end.ensures)

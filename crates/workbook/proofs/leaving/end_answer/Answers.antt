@@ -1,6 +1,5 @@
 -- `end_answer` meets its contract. Assumes nothing.
 use Rattle.workbook.proofs.leaving.end_answer.Goals as goal
-use Rattle.std.specs.Prelude.{Some, None}
 
 pub returns-in-None : goal.returns-in-None
 returns-in-None c = simp c.in-None.is

@@ -1,6 +1,5 @@
 -- `leave_state` meets its contract. Assumes nothing.
 use Rattle.workbook.proofs.leaving.leave_state.Goals as goal
-use Rattle.std.specs.Prelude.{Ok, Err}
 
 pub returns-in-Ok : goal.returns-in-Ok
 returns-in-Ok c = simp c.in-Ok.is c.write_state.ensures

@@ -9,7 +9,6 @@ use Rattle.rules.proofs.Placement.{sheet_within}
 use Rattle.workbook.proofs.Checks.{words_no, words_yes}
 use Rattle.workbook.proofs.LoadedWords.{parts_lie, load_short, load_refused, load_accepted}
 use Rattle.workbook.proofs.loads.load_lent.Goals as goal
-use Rattle.std.specs.Prelude.{Err, Ok}
 
 pub has_words-requires : goal.has_words-requires
 has_words-requires c = let a = c.args in

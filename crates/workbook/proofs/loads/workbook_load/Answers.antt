@@ -3,7 +3,6 @@ use mathlib.Core.Path.{sym, ◌∙◌}
 use Rattle.workbook.proofs.LoadedWords.{load_unread}
 use Rattle.workbook.proofs.Demand3.{load_promised}
 use Rattle.workbook.proofs.loads.workbook_load.Goals as goal
-use Rattle.std.specs.Prelude.{Err, Ok}
 
 pub load_lent-requires : goal.load_lent-requires
 load_lent-requires c = (sym c.check_sheet-checked.ensures ∙ c.in-Ok.is)
