@@ -3,10 +3,10 @@ use const_pool::{Width, load_constant};
 use instructions::opcodes::*;
 use instructions::{Entry, decode, entry};
 use operands::{lookup_offset, read_code_u8, table_offset};
-use rules::Method;
+use rules::{Method, Refusal};
 
-// Three numbers, 0 where there is none, or the number of a refusal.
-pub(crate) type Answer = Result<[u64; 3], u32>;
+// Three numbers, 0 where there is none, or a refusal.
+pub(crate) type Answer = Result<[u64; 3], Refusal>;
 
 // The entry of the opcode at an offset, of the one after it where it is WIDE.
 fn expected_entry(code: &[u8], pc: u32) -> Option<Entry> {
@@ -20,9 +20,11 @@ fn expected_entry(code: &[u8], pc: u32) -> Option<Entry> {
 // The length, the index and the constant of the instruction at an offset; none where it is not that of its opcode.
 pub(crate) fn instruction(code: &[u8], pc: u32) -> Option<Answer> {
     match decode(code, pc) {
-        Err(refusal) => Some(Err(refusal.number())),
+        Err(refusal) => Some(Err(refusal)),
         Ok(d) if expected_entry(code, pc) == Some(d.entry) => {
-            Some(Ok([d.size as u64, d.index as u64, d.constant as u64]))
+            // `u64` has no `From<usize>`
+            let size = d.size as u64;
+            Some(Ok([size, d.index.into(), d.constant.into()]))
         }
         Ok(_) => None,
     }
@@ -35,7 +37,7 @@ pub(crate) fn branch(code: &[u8], pc: u32, key: u32) -> Option<Answer> {
         LOOKUPSWITCH => lookup_offset(code, pc, key),
         _ => return None,
     };
-    Some(Ok([offset as u64, 0, 0]))
+    Some(Ok([offset.into(), 0, 0]))
 }
 
 // The words of the constant at an index of a method's pool, for an opcode that loads one; none for any other.
@@ -45,9 +47,6 @@ pub(crate) fn constant(method: &Method, index: u32, opcode: u32) -> Option<Answe
         Ok(LDC2_W) => Width::Two,
         _ => return None,
     };
-    Some(
-        load_constant(method, index, width)
-            .map(|found| [found.low as u64, found.high as u64, 0])
-            .map_err(|refusal| refusal.number()),
-    )
+    let found = load_constant(method, index, width);
+    Some(found.map(|found| [found.low.into(), found.high.into(), 0]))
 }

@@ -1,10 +1,10 @@
 // The fields of a line. judge/src/lists/decoding says how a line is laid out.
 ghost use Rattle.std.specs.Prelude.{◌≤◌, ◌<◌};
 
-use crate::answers::Answer;
 use crate::failures::Failure;
 use reading::hexadecimal;
 use std::alloc::Global;
+use walks::Pool;
 
 // A line, its line feed included.
 pub(crate) type Line = [u8; 187];
@@ -13,13 +13,6 @@ pub(crate) type Line = [u8; 187];
 const BYTE: usize = 2;
 
 const CONSTANT: usize = 10;
-
-// The entries of a constant pool: their kinds, and their words.
-#[derive(Drop)]
-pub(crate) struct Pool {
-    pub kinds: Vec<u8>,
-    pub words: Vec<u32>,
-}
 
 // The number in some columns, all of them digits.
 fn value<T: TryFrom<u64>>(columns: &[u8]) -> Result<T, Failure>
@@ -30,8 +23,10 @@ where
     T::try_from(value).map_err(|_| Failure::Malformed)
 }
 
-// The number in a field of at most 8 columns.
-pub(crate) fn number(line: &Line, start: usize, end: usize) -> Result<u32, Failure>
+// The number in a field.
+pub(crate) fn number<T: TryFrom<u64>>(line: &Line, start: usize, end: usize) -> Result<T, Failure>
+where
+    T::Error: Drop,
     requires { (start ≤ end) × (end ≤ 187) }
 {
     value(&line[start..end])
@@ -44,25 +39,27 @@ pub(crate) fn is_laid_out(line: &Line) -> bool {
     before && after && line[186] == b'\n'
 }
 
-// The answer that a line expects. No number goes with a refusal.
-pub(crate) fn expected(line: &Line) -> Result<Answer, Failure> {
+// The answer that a line expects: three numbers, or that of a refusal, with which no other goes.
+pub(crate) fn expected(line: &Line) -> Result<Result<[u64; 3], u32>, Failure> {
     let refusal = number(line, 25, 27)?;
-    let first = number(line, 28, 36)?;
-    let second = number(line, 37, 45)?;
-    let third = number(line, 46, 54)?;
-    match (refusal, first, second, third) {
-        (0, _, _, _) => Ok(Ok([first as u64, second as u64, third as u64])),
-        (_, 0, 0, 0) => Ok(Err(refusal)),
+    let numbers = [
+        number(line, 28, 36)?,
+        number(line, 37, 45)?,
+        number(line, 46, 54)?,
+    ];
+    match (refusal, numbers) {
+        (0, _) => Ok(Ok(numbers)),
+        (_, [0, 0, 0]) => Ok(Err(refusal)),
         _ => Err(Failure::Malformed),
     }
 }
 
 // So many entries of a line, of so many columns each; after them it has to be blank.
-fn entries(line: &Line, count: u32, columns: usize) -> Result<&[u8], Failure>
+fn entries(line: &Line, count: u8, columns: usize) -> Result<&[u8], Failure>
     requires { columns ≤ 10 }
 {
     let bytes = &line[58..186];
-    let end = count as usize * columns;
+    let end = usize::from(count) * columns;
     if end > bytes.len() {
         return Err(Failure::Malformed);
     }
@@ -73,7 +70,7 @@ fn entries(line: &Line, count: u32, columns: usize) -> Result<&[u8], Failure>
 }
 
 // The bytes of a line as code.
-pub(crate) fn code_of(alloc: Global, line: &Line, count: u32) -> Result<Vec<u8>, Failure> {
+pub(crate) fn code_of(alloc: Global, line: &Line, count: u8) -> Result<Vec<u8>, Failure> {
     let (entries, _) = entries(line, count, BYTE)?.as_chunks::<BYTE>();
     let mut code = Vec::new(alloc);
     for columns in entries {
@@ -83,7 +80,7 @@ pub(crate) fn code_of(alloc: Global, line: &Line, count: u32) -> Result<Vec<u8>,
 }
 
 // The bytes of a line as entries of a constant pool.
-pub(crate) fn pool_of(alloc: Global, line: &Line, count: u32) -> Result<Pool, Failure> {
+pub(crate) fn pool_of(alloc: Global, line: &Line, count: u8) -> Result<Pool, Failure> {
     let (entries, _) = entries(line, count, CONSTANT)?.as_chunks::<CONSTANT>();
     let mut pool = Pool {
         kinds: Vec::new(alloc),

@@ -61,6 +61,7 @@ fn vector_holds(alloc: Global, line: &Line, kind: Kind) -> Result<bool, Failure>
             answers::constant(&method, at, key)
         }
     };
+    let answer = answer.map(|found| found.map_err(|refusal| refusal.number()));
     Ok(answer == Some(expected(line)?))
 }
 

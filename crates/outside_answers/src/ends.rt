@@ -5,6 +5,7 @@ use std::io;
 use values::Value;
 
 // Prints how a run ended, the bits of a NaN only if they are asked for.
+// No `is_nan`: `f32::from_bits` takes the bits of no NaN.
 pub(crate) fn print_line(rt: &impl Print, end: End, bits: bool) -> io::Result<()> {
     match end {
         Some(Halt::Return(Value::Float(word))) if !bits && word % 0x8000_0000 > 0x7F80_0000 => {

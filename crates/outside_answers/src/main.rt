@@ -9,7 +9,7 @@ use interpreter::run;
 use reading::{read_bytes, read_record};
 use std::io;
 use std::io::Read;
-use walks::Pool;
+use walks::Memory;
 
 // More methods than any file has, and more steps than any that ends takes.
 const MOST: u64 = 1_000_000;
@@ -30,16 +30,12 @@ fn trial<R: Print + AllocGlobal>(
         return Ok(());
     }
     let sheet = read_bytes(rt.alloc(), stdin, length)?;
-    let mut slots = vec![in rt.alloc(); 0u32; 131072]?;
-    let mut pool = Pool {
-        kinds: vec![in rt.alloc(); 0u8; 65536]?,
-        words: vec![in rt.alloc(); 0u32; 65536]?,
-    };
-    match pool.load(&sheet, &mut slots) {
+    let mut memory = Memory::zeroed(rt.alloc(), 131072, 65536)?;
+    match memory.pool.load(&sheet, &mut memory.slots) {
         Err(refusal) => println!(rt; "sheet {}", refusal.number()),
         Ok(loaded) => {
-            let method = pool.method(&sheet, loaded);
-            let ran = run(&method, &mut slots, loaded.state, BUDGET);
+            let method = memory.pool.method(&sheet, loaded);
+            let ran = run(&method, &mut memory.slots, loaded.state, BUDGET);
             print_line(rt, ran.end, bits)
         }
     }

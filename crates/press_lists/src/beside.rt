@@ -1,34 +1,29 @@
 // A run beside a list of presses: both must end at the same place.
+use crate::memory::Memory;
 use interpreter::run;
-use rules::{End, Halt, State};
+use printing::Ending;
+use rules::State;
 use std::io;
-use walks::Pool;
 
-// What ended a run, in a word.
-fn name_of(end: End) -> &'static str {
-    match end {
-        None => "stopped",
-        Some(Halt::Return(_)) => "return",
-        Some(Halt::Throw) => "throw",
-        Some(Halt::Refused(_)) => "refused",
-    }
-}
-
-// Loads a sheet into other slots, runs there as many steps as a list's count, and prints whether the run ended at the offset, the depth and the slots that the list left.
+// Loads a sheet into the other slots, runs there as many steps as a list's count, and prints whether the run ended at the offset, the depth and the slots that the list left.
 pub(crate) fn run_beside(
     rt: &impl Print,
     sheet: &[u8],
-    pool: &mut Pool,
-    others: &mut [u32],
-    slots: &[u32],
-    s: State,
+    memory: &mut Memory,
+    left: State,
 ) -> io::Result<()> {
-    let Ok(loaded) = pool.load(sheet, others) else {
+    let Ok(loaded) = memory.pool.load(sheet, &mut memory.others) else {
         return Ok(());
     };
-    let ran = run(&pool.method(sheet, loaded), others, loaded.state, s.count);
-    println!(rt; "run {} {} {}", s.count, ran.steps, name_of(ran.end))?;
-    let t = ran.state;
-    let is_same = s.pc == t.pc && s.depth == t.depth && *slots == *others;
+    let method = memory.pool.method(sheet, loaded);
+    let ran = run(&method, &mut memory.others, loaded.state, left.count);
+    println!(rt;
+        "run {} {} {}",
+        left.count,
+        ran.steps,
+        Ending(ran.end).name()
+    )?;
+    let is_same_state = left.pc == ran.state.pc && left.depth == ran.state.depth;
+    let is_same = is_same_state && memory.slots == memory.others;
     println!(rt; "{}", if is_same { "same" } else { "differs" })
 }

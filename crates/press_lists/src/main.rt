@@ -3,6 +3,7 @@
 #![tactic(auto)]
 
 mod beside;
+mod memory;
 mod samples;
 mod tally;
 mod walking;

@@ -1,4 +1,5 @@
 // The samples on standard input: a head of 80 bytes, then the sheet, the log's words and the presses.
+use integers::join_words;
 use reading::{read_bytes, word_at};
 use std::alloc::{AllocError, Global};
 use std::io;
@@ -9,11 +10,7 @@ pub(crate) type Head = [u8; 80];
 
 // The name in a head, without the blanks after it.
 pub(crate) fn name_of(head: &Head) -> &[u8] {
-    let name = &head[..40];
-    match name.iter().rposition(|byte| *byte != b' ') {
-        Some(last) => &name[..=last],
-        None => b"",
-    }
+    head[..40].trim_ascii_end()
 }
 
 // How much is lent of each part, and how much is read.
@@ -70,12 +67,10 @@ pub(crate) struct Begin {
 impl Begin {
     // The beginning in a head, after the sizes.
     fn of(head: &Head) -> Begin {
-        let high = word_at(head, 72) as u64;
-        let low = word_at(head, 76) as u64;
         Begin {
             pc: word_at(head, 64),
             depth: word_at(head, 68),
-            count: high << 32 | low,
+            count: join_words(word_at(head, 76), word_at(head, 72)),
         }
     }
 }

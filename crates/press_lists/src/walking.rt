@@ -1,14 +1,13 @@
 // A list of presses on what a load left.
 use crate::beside::run_beside;
-use crate::samples::{Begin, Sample, Sizes};
+use crate::memory::Memory;
+use crate::samples::{Begin, Sample};
 use crate::tally::Tally;
 use history::presses;
 use interpreter::moved;
 use printing::{checksum, print_list, print_state, print_words};
 use rules::{Loaded, State};
-use std::alloc::{AllocError, Global};
 use std::io;
-use walks::Pool;
 
 // Prints an answer as the C interface has it, in words: its number, and the value of a return.
 fn print_answer(rt: &impl Print, answer: &[u32; 3]) -> io::Result<()> {
@@ -32,28 +31,6 @@ fn print_left(
     print_words(rt, b"slots", slots)?;
     println!(rt; "log {:08X}", checksum(log.iter().copied()))?;
     println!(rt; "words {:08X}", checksum(answers.iter().copied()))
-}
-
-// What is lent beside a sample's log: slots for the list and for a run beside it, a constant pool, and the words of the answers.
-#[derive(Drop)]
-struct Memory {
-    slots: Vec<u32>,
-    others: Vec<u32>,
-    pool: Pool,
-    answers: Vec<u32>,
-}
-
-// Memory that holds junk.
-fn junk(alloc: Global, sizes: Sizes) -> Result<Memory, AllocError> {
-    Ok(Memory {
-        slots: vec![in alloc; 0xBEEF_BEEF; sizes.slots]?,
-        others: vec![in alloc; 0xBEEF_BEEF; sizes.slots]?,
-        pool: Pool {
-            kinds: vec![in alloc; 0xAB; sizes.pool]?,
-            words: vec![in alloc; 0xDEAD_DEAD; sizes.pool]?,
-        },
-        answers: vec![in alloc; 0xFACE_FACE; sizes.answers]?,
-    })
 }
 
 // Prints the answers of a list's presses, and counts them.
@@ -99,7 +76,7 @@ pub(crate) fn make_list<R: Print + AllocGlobal>(
     sample: &mut Sample,
     tally: &mut Tally,
 ) -> io::Result<()> {
-    let mut memory = junk(rt.alloc(), sample.sizes)?;
+    let mut memory = Memory::junk(rt.alloc(), sample.sizes)?;
     match memory.pool.load(&sample.sheet, &mut memory.slots) {
         Err(refusal) => println!(rt; "sheet {}", refusal.number()),
         Ok(loaded) => {
@@ -107,14 +84,7 @@ pub(crate) fn make_list<R: Print + AllocGlobal>(
             if sample.begin != Begin::default() {
                 return Ok(());
             }
-            run_beside(
-                rt,
-                &sample.sheet,
-                &mut memory.pool,
-                &mut memory.others,
-                &memory.slots,
-                left,
-            )
+            run_beside(rt, &sample.sheet, &mut memory, left)
         }
     }
 }

@@ -1,4 +1,7 @@
 // How a run ends, as a line has it (RULES, 'The printed walk').
+ghost use Rattle.std.specs.Prelude.{◌≡◌};
+ghost use Rattle.printing.specs.Endings.{name_of};
+
 use rules::{End, Halt};
 use std::fmt;
 use values::Value;
@@ -24,13 +27,29 @@ impl fmt::Display for Returned {
 #[derive(Clone, Copy)]
 pub struct Ending(pub End);
 
+impl Ending {
+    // What ended it, in a word.
+    pub fn name(self) -> &'static str
+        ensures { result.now ≡ name_of self.0 }
+    {
+        match self.0 {
+            None => "stopped",
+            Some(Halt::Return(_)) => "return",
+            Some(Halt::Throw) => "throw",
+            Some(Halt::Refused(_)) => "refused",
+        }
+    }
+}
+
+// The name, and what goes with it.
 impl fmt::Display for Ending {
     fn fmt<W: fmt::Write>(&self, f: &mut fmt::Formatter<W>) -> fmt::Result {
+        let name = self.name();
         match self.0 {
-            None => write!(f, "stopped"),
-            Some(Halt::Return(v)) => write!(f, "return {}", Returned(v)),
-            Some(Halt::Throw) => write!(f, "throw arithmetic"),
-            Some(Halt::Refused(refusal)) => write!(f, "refused {}", refusal.number()),
+            None => write!(f, "{name}"),
+            Some(Halt::Return(v)) => write!(f, "{name} {}", Returned(v)),
+            Some(Halt::Throw) => write!(f, "{name} arithmetic"),
+            Some(Halt::Refused(refusal)) => write!(f, "{name} {}", refusal.number()),
         }
     }
 }

@@ -4,6 +4,7 @@ use printing::checksum;
 use rules::{Loaded, Refusal};
 use std::alloc::{AllocError, Global};
 use std::io;
+use std::iter::successors;
 use walks::Pool;
 
 // Junk: a first item, and each next one made of the one before it.
@@ -15,13 +16,9 @@ fn junk<T: Copy, F: Fn(T) -> T>(
 ) -> Result<Vec<T>, AllocError>
     requires { F.IsAlwaysCallable next }
 {
-    let mut items = Vec::new(alloc);
-    let mut item = first;
-    for _ in 0..count {
-        items.push(item)?;
-        item = next(item);
-    }
-    Ok(items)
+    successors(Some(first), |item| Some(next(*item)))
+        .take(count)
+        .collect(alloc)
 }
 
 // Junk words from a first one on.

@@ -4,6 +4,7 @@ ghost use Rattle.std.specs.Prelude.{◌+◌, ◌*◌, ◌≤◌, ◌<◌};
 use reading::digit_value;
 use rules::State;
 use std::alloc::{AllocError, Global};
+use walks::Pool;
 
 // A line, its line feed included.
 pub(crate) type Line = [u8; 496];
@@ -12,8 +13,7 @@ pub(crate) type Line = [u8; 496];
 #[derive(Drop)]
 pub(crate) struct Sample {
     pub code: Vec<u8>,
-    pub kinds: Vec<u8>,
-    pub words: Vec<u32>,
+    pub pool: Pool,
     pub handlers: Vec<u8>,
     pub slots: Vec<u32>,
     pub state: State,
@@ -25,7 +25,7 @@ where
     T::Error: Drop,
 {
     let value = columns.iter().fold(0u64, |value, byte| {
-        value << 4 | digit_value(*byte).unwrap_or(0) as u64
+        value << 4 | u64::from(digit_value(*byte).unwrap_or_default())
     });
     T::try_from(value).unwrap_or_default()
 }
@@ -41,19 +41,21 @@ where
     T::Error: Drop,
     requires { 0 < width }
 {
-    let mut all = Vec::new(alloc);
-    for item in columns.chunks_exact(width).take(count) {
-        all.push(number(item))?;
-    }
-    Ok(all)
+    columns
+        .chunks_exact(width)
+        .take(count)
+        .map(|item| number(item))
+        .collect(alloc)
 }
 
 // The sample in a line.
 pub(crate) fn sample_of(alloc: Global, line: &Line) -> Result<Sample, AllocError> {
     Ok(Sample {
         code: numbers(alloc, &line[44..172], 2, number(&line[41..43]))?,
-        kinds: numbers(alloc, &line[175..191], 2, number(&line[173..174]))?,
-        words: numbers(alloc, &line[194..258], 8, number(&line[192..193]))?,
+        pool: Pool {
+            kinds: numbers(alloc, &line[175..191], 2, number(&line[173..174]))?,
+            words: numbers(alloc, &line[194..258], 8, number(&line[192..193]))?,
+        },
         handlers: numbers(alloc, &line[262..342], 2, number(&line[259..261]))?,
         slots: numbers(alloc, &line[345..441], 8, number(&line[343..344]))?,
         state: State {

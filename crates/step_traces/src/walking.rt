@@ -25,7 +25,9 @@ fn print_walk(rt: &impl Print, method: &Method, slots: &mut [u32], s: State) -> 
     print_frame(rt, slots, s)?;
     let walked = walk(rt, method, slots, s, BUDGET)?;
     println!(rt; "{}", Ending(walked.end))?;
-    print_frame(rt, slots, walked.state)?;
+    // before the first step a state has its count still
+    let reached = if walked.steps == 0 { s } else { walked.state };
+    print_frame(rt, slots, reached)?;
     Ok(walked.steps)
 }
 
@@ -45,13 +47,14 @@ fn print_run(
 // Prints what is lent of a sample, its walk, a run, and a run of half the walk, each on slots of its own.
 pub(crate) fn trace(rt: &impl Print, sample: &Sample) -> io::Result<()> {
     print_bytes(rt, b"code", &sample.code)?;
-    print_list(rt, b"kinds", &sample.kinds, |kind| print!(rt; " {kind}"))?;
-    print_words(rt, b"words", &sample.words)?;
+    let pool = &sample.pool;
+    print_list(rt, b"kinds", &pool.kinds, |kind| print!(rt; " {kind}"))?;
+    print_words(rt, b"words", &pool.words)?;
     print_bytes(rt, b"handlers", &sample.handlers)?;
     let method = Method {
         code: &sample.code,
-        kinds: &sample.kinds,
-        words: &sample.words,
+        kinds: &pool.kinds,
+        words: &pool.words,
         handlers: &sample.handlers,
     };
     let s = sample.state;

@@ -1,6 +1,7 @@
 // The constant pool that a load fills.
 use rules::{Loaded, Method, Refusal};
 use sheet::{code_of, handlers_of, load};
+use std::alloc::{AllocError, Global};
 
 // The entries of a constant pool: their kinds, and their words.
 #[derive(Drop)]
@@ -10,10 +11,21 @@ pub struct Pool {
 }
 
 impl Pool {
-    ghost use Rattle.std.specs.Prelude.{◌≡◌, MatchResult};
+    ghost use Rattle.std.specs.Prelude.{◌≡◌, IfOk, MatchResult, replicate};
     ghost use Rattle.std.specs.Prelude.Result.{Ok, Err};
     ghost use Rattle.rules.specs.Sheet.{load_of, code_of, handlers_of};
     ghost use Rattle.sheet.specs.Filled.{after_load};
+
+    // So many entries, all of one kind and of one word.
+    pub fn filled(alloc: Global, entries: usize, kind: u8, word: u32) -> Result<Pool, AllocError>
+        ensures kinds { IfOk result (λ pool. pool.kinds.items ≡ replicate entries kind) }
+        ensures words { IfOk result (λ pool. pool.words.items ≡ replicate entries word) }
+    {
+        Ok(Pool {
+            kinds: vec![in alloc; kind; entries]?,
+            words: vec![in alloc; word; entries]?,
+        })
+    }
 
     // Loads a sheet: where its parts lie, or why it is refused.
     pub fn load(&mut self, sheet: &[u8], slots: &mut [u32]) -> Result<Loaded, Refusal>

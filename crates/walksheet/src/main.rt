@@ -4,7 +4,7 @@
 use printing::Ending;
 use reading::read_full;
 use std::io;
-use walks::{Pool, walk};
+use walks::{Memory, walk};
 
 // The most steps that are walked.
 const MOST: u64 = 1600;
@@ -14,16 +14,12 @@ fn main(rt: HostRuntime) -> io::Result<()> {
     let mut sheet = vec![in rt.alloc(); 0u8; 65536]?;
     let count = read_full(&mut rt.stdin(), &mut sheet)?;
     sheet.truncate(count);
-    let mut slots = vec![in rt.alloc(); 0u32; 8192]?;
-    let mut pool = Pool {
-        kinds: vec![in rt.alloc(); 0u8; 4096]?,
-        words: vec![in rt.alloc(); 0u32; 4096]?,
-    };
-    match pool.load(&sheet, &mut slots) {
+    let mut memory = Memory::zeroed(rt.alloc(), 8192, 4096)?;
+    match memory.pool.load(&sheet, &mut memory.slots) {
         Err(refusal) => println!(rt; "sheet {}", refusal.number()),
         Ok(loaded) => {
-            let method = pool.method(&sheet, loaded);
-            let walked = walk(&rt, &method, &mut slots, loaded.state, MOST)?;
+            let method = memory.pool.method(&sheet, loaded);
+            let walked = walk(&rt, &method, &mut memory.slots, loaded.state, MOST)?;
             println!(rt; "{}", Ending(walked.end))
         }
     }
