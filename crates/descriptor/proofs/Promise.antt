@@ -15,7 +15,7 @@ use Rattle.rules.proofs.Standing.{inside}
 use Rattle.rules.proofs.Descriptor.{descriptor_sound, descriptor_complete, not_opened, too_many_places, not_closed, no_return, is_descriptor}
 use Rattle.rules.specs.declared.descriptors.Descriptor.{Descriptor}
 use Rattle.descriptor.specs.declared.descriptors.Parameters.{Parameters}
-use Rattle.descriptor.specs.Answers.{descriptor_of, described, Exact, Promise, Parsed, Whole}
+use Rattle.descriptor.specs.Answers.{described, Exact, Promise, Parsed, Whole}
 
 module _ (d : List ℕ) where
   exact : (x : Check (Unit {0})) → descriptor_check d ≡ x → Exact d (x >> Ok (descriptor_of d))
