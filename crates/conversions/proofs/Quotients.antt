@@ -4,7 +4,7 @@ use Prim.Native.Nat.{ℕ, ◌+◌, ◌*◌, ◌/◌, ◌%◌, ◌^◌, ◌≤◌
 use native.Mathlib.Nat.{mod-eq_of_lt, div-eq_of_lt, le_trans}
 use native.Mathlib.Omega.{arith}
 use mathlib.Core.Bool.{not}
-use lib.Dec.{T, is_le, compare_is_eq, leb→le, nleb→lt, eqb→eq}
+use lib.Dec.{T, is_le, nleb→lt}
 use lib.Pow.{shr_lt}
 use lib.Ieee as Ieee
 use lib.Ieee.Nearest.{closest}
@@ -14,29 +14,17 @@ use lib.Ieee.Fits.{nearest-le}
 pub closest_le : (m p j : ℕ) → m < 2 ^ (p + j) → closest m (2 ^ j) ≤ 2 ^ p
 closest_le m p j h = le_trans (nearest-le (m / 2 ^ j) (compare (m % 2 ^ j * 2) (2 ^ j))) (shr_lt p j h)
 
--- ---- of a fraction below one: a half goes to 0, the even number
-module _ (m u : ℕ) (l : m < u) where
-  by_half : closest m u ≡ Ieee.nearest 0 (compare (m * 2) u)
-  by_half = ap (λ (q : ℕ). Ieee.nearest q (compare (m % u * 2) u)) (div-eq_of_lt l) ∙ ap (λ (r : ℕ). Ieee.nearest 0 (compare (r * 2) u)) (mod-eq_of_lt l)
+-- at most a half: a half goes to 0, the even number
+pub closest_zero : (m u : ℕ) → m < u → 2 * m ≤ u → closest m u ≡ 0
+closest_zero m u l h =
+    ap (λ (q : ℕ). Ieee.nearest q (compare (m % u * 2) u)) (div-eq_of_lt l)
+    ∙ ap (λ (r : ℕ). Ieee.nearest 0 (compare (r * 2) u)) (mod-eq_of_lt l)
+    ∙ go (compare (m * 2) u) (nleb→lt (m * 2) u)
+  where
+    no : u < m * 2 → ⊥
+    no g = omega arith
 
-  pub closest_one : u < 2 * m → closest m u ≡ 1
-  closest_one h = by_half ∙ go (compare (m * 2) u) (leb→le (m * 2) u) (eqb→eq (m * 2) u)
-    where
-      no : m * 2 ≤ u → ⊥
-      no g = omega arith
-
-      go : (o : Ordering) → (T (is_le o) → m * 2 ≤ u) → (T (compare_is_eq o) → m * 2 ≡ u) → Ieee.nearest 0 o ≡ 1
-      go Ordering.lt k e = absurd (no (k tt))
-      go Ordering.eq k e = absurd (no (k tt))
-      go Ordering.gt k e = refl
-
-  pub closest_zero : 2 * m ≤ u → closest m u ≡ 0
-  closest_zero h = by_half ∙ go (compare (m * 2) u) (nleb→lt (m * 2) u)
-    where
-      no : u < m * 2 → ⊥
-      no g = omega arith
-
-      go : (o : Ordering) → (T (not (is_le o)) → u < m * 2) → Ieee.nearest 0 o ≡ 0
-      go Ordering.lt k = refl
-      go Ordering.eq k = refl
-      go Ordering.gt k = absurd (no (k tt))
+    go : (o : Ordering) → (T (not (is_le o)) → u < m * 2) → Ieee.nearest 0 o ≡ 0
+    go Ordering.lt k = refl
+    go Ordering.eq k = refl
+    go Ordering.gt k = absurd (no (k tt))
