@@ -4,8 +4,7 @@ use mathlib.Core.Path.{◌≡◌, refl, sym, subst}
 use mathlib.Core.List.{List}
 use native.Mathlib.Omega.{arith}
 use lib.ListN.{length}
-use Rattle.std.specs.Prelude.{Option, Some, None, Ok, Err}
-use Rattle.std.specs.Option.{ok_or}
+use Rattle.std.specs.Prelude.{Some, None, Ok, Err}
 use Rattle.values.specs.Kinds.{places_of}
 use Rattle.rules.specs.Check.{Check, ◌>>◌}
 use Rattle.rules.specs.Fetch.{u8}
@@ -64,8 +63,3 @@ module _ (d : List ℕ) where
             let ends : return_end d (parameters_end d + 1) ≡ length d = rw begins at h in
             let letter : t ≡ return_type d = rw begins at e in
             kept _ (rw (is_descriptor d opened whole closed_there ends, k, ← w.all_places, ← letter))
-
--- the answer with the one refusal
-pub answered : (d : List ℕ) (r : Option Descriptor) → Parsed d r → Promise d (ok_or r Refusal.Descriptor)
-answered d None p = p
-answered d (Some x) p = p

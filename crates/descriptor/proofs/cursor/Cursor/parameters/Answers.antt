@@ -4,7 +4,7 @@ use Rattle.values.specs.Kinds.{places}
 use Rattle.rules.specs.Fetch.{u8}
 use Rattle.rules.specs.Descriptor.{field_end, kind_of}
 use Rattle.descriptor.specs.Cursors.{StandsAt}
-use Rattle.descriptor.proofs.Turns.{counting_starts, forward, counting_goes_on, counted, counted_over}
+use Rattle.descriptor.proofs.Turns.{counting_starts, forward, counting_goes_on, counted}
 use Rattle.descriptor.proofs.cursor.Cursor.parameters.Goals as goal
 
 pub loop-places-init : goal.loop-places-init
@@ -27,7 +27,3 @@ loop-places-preserved c = let d = c.args.self.descriptor.now in
     let next : StandsAt d (field_end d t.end.at) c.in-Some.next = rw t.invariant.same at c.in-Some.ensures in
     let takes : c.places_of-places.result ≡ places (kind_of (u8 d t.end.at)) = c.places_of-places.ensures ∙ ap (λ x. places (kind_of x)) (rw t.invariant.same at c.byte.ensures) in
     record { same = next.same; counting = counting_goes_on d t.end.at t.places t.invariant.counting c.in-Some.next.at c.places_of-places.result next.there next.begun takes }
-
-pub returns : goal.returns
-returns c = let t = c.loop-places in
-    counted_over c.args.self.descriptor.now t.end.at t.places t.invariant.counting c.loop-places-test.false
