@@ -1,5 +1,5 @@
 // TABLESWITCH and LOOKUPSWITCH (JVMS 6.5): whether their tables are whole and in order, and the offset for a key.
-ghost use Rattle.std.specs.Prelude.{◌≡◌, ◌+◌, ◌*◌, ◌^◌, ◌<◌, length, map};
+ghost use Rattle.std.specs.Prelude.{◌≡◌, ◌+◌, ◌*◌, ◌^◌, ◌<◌, ◌≤◌, length, map};
 ghost use Rattle.values.specs.Kinds.{int};
 ghost use Rattle.values.specs.Integers.{◌<ᶻ◌};
 ghost use Rattle.values.specs.Words.{meaning};
@@ -86,9 +86,9 @@ impl Operands<'_> {
         self.start() + size <= self.code.len()
     }
 
-    // The switch, whose operands are so many bytes.
+    // The switch, whose operands are so many bytes of the code.
     fn switch(self, size: usize) -> Switch
-        requires { size < 2 ^ 40 }
+        requires { aligned self.pc + size ≤ length self.code.now }
         ensures { result ≡ switch_with self.entry.code.now self.entry.pc size }
     {
         Switch {
@@ -99,6 +99,7 @@ impl Operands<'_> {
 }
 
 // TABLESWITCH: its fixed fields, the order of its lowest and highest key, and its whole table.
+#[tactic(auto, using(std::proofs::lemmas::Bool::Decides::nat_tests))]
 pub fn table_switch(code: &[u8], pc: u32) -> Result<Switch, Refusal>
     ensures { (row : Row) → result ≡ switch_of (table_check code.now pc row) }
 {
@@ -151,6 +152,7 @@ fn keys_rise(pairs: &[Pair]) -> bool
 }
 
 // LOOKUPSWITCH: its fixed fields, its count of pairs, its whole table and the order of all its keys.
+#[tactic(auto, using(std::proofs::lemmas::Bool::Decides::nat_tests))]
 pub fn lookup_switch(code: &[u8], pc: u32) -> Result<Switch, Refusal>
     ensures { (row : Row) → result ≡ switch_of (lookup_check code.now pc row) }
 {

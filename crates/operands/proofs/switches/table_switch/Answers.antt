@@ -16,8 +16,8 @@ returns-then-not-has c = let a = c.args in
 pub returns-then-not-icmple : goal.returns-then-not-icmple
 unfolding switch_of
 returns-then-not-icmple c = let a = c.args in
-    let fields = leb-true _ _ (sym c.has.ensures ∙ c.if-not-has.false) in
     let order = keys_order a.code.now a.pc c.low-low.result c.high-high.result c.low-low.ensures c.high-high.ensures (omega (arith, c.low-low.type_inv)) (omega (arith, c.high-high.type_inv)) _ _ c.icmple.ensures c.if-not-icmple.true in
+    let fields = leb-true _ _ (sym c.has.ensures ∙ c.if-not-has.false) in
     λ row. sym (ap switch_of (table_disordered a.code.now a.pc row fields order))
 
 pub returns-then-not-has-2 : goal.returns-then-not-has-2
