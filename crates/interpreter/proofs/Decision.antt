@@ -13,7 +13,6 @@ use Rattle.values.specs.Words.{meaning}
 use Rattle.rules.specs.declared.states.State.{State}
 use Rattle.rules.specs.Check.{Check, ◌>>=◌}
 use Rattle.rules.specs.Forms.{Rule, Operand, Result, offset_for, pushes, stores, divides, branches, returns}
-use Rattle.rules.specs.Instructions.{row_of}
 use Rattle.rules.specs.Fetch.{Instruction, operands, fetched}
 use Rattle.rules.specs.Questions.{Method, popped, pushed, frame_check, needs_check}
 use Rattle.rules.specs.Handlers.{handler_from}
