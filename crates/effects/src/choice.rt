@@ -107,7 +107,8 @@ fn control_effect(op: u8, a: u32, b: u32) -> Effect
     branch_effect(op, a, b)
 }
 
-// What a shared opcode does with its constant and its words, lowest first.
+// What a shared opcode does with its constant and its words. The families are told apart by tests in turn: with a `match` over ranges of opcodes, here, in `plain_effect`
+// and in `control_effect`, a step took 156.5 machine instructions and not 142.5. The words are taken apart here: passed on as one, a step took 199.3 and not 190.0.
 pub fn effect(op: u8, constant: u32, w: Four) -> Effect
     requires { is_in shared_opcodes op ≡ true }
     ensures { result ≡ effect_at op constant w.a w.b w.c w.d }

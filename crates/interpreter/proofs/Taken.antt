@@ -41,10 +41,6 @@ module _ (l : Method) (s : State) (slots : List ℕ) (r : Reached) (e : r ≡ ad
       go (Err Throw) o = refl
       go (Err (Refused n)) o = refl
 
-pub step_refused : (l : Method) (s : State) (slots : List ℕ) (n : Refusal) → decide_of l s slots ≡ Err (Refused n) → record { state = s; decision = Err (Refused n); slots = slots } ≡ step_of (core_machine l) s slots
-unfolding step_of
-step_refused l s slots n e = rw e
-
 -- ---- a run: all its steps but the last, and the last
 
 abbrev last_step : State → ℕ → List ℕ → Decision → Ran

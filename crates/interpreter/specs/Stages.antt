@@ -1,6 +1,6 @@
 -- The step in the stages of the code, on an instruction that is decoded and placed: for the contracts of private functions, tied to the rules by
 -- proofs/Decision and proofs/Sources. Assumes nothing.
-use Rattle.std.specs.Prelude.{ℕ, ◌+◌, Bool, ◌||◌, cond, List, [], ◌∷◌, eqb, ℤ, pos, ◌+ℤ◌, get_or, Ok, Err}
+use Rattle.std.specs.Prelude.{ℕ, ◌+◌, Bool, ◌||◌, cond, List, [], eqb, ℤ, pos, ◌+ℤ◌, get_or, Ok, Err}
 use Rattle.values.specs.Kinds.{int, long, float, double}
 use Rattle.values.specs.Words.{meaning}
 use Rattle.rules.specs.declared.states.State.{State}

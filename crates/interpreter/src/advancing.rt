@@ -31,6 +31,7 @@ fn advance_plain(method: &Method, slots: &mut [u32], s: State, taken: u64, most:
     let own = *method;
     let mut t = s;
     let mut steps = taken;
+    // the two ends stand apart here and below: joined in one arm, with the last step in the guard of the other, a step took 159.3 machine instructions and not 156.5
     loop {
         let decision = decide_framed(&own, slots, t);
         let Ok(u) = decision else {

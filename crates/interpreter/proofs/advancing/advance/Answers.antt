@@ -1,14 +1,12 @@
 -- `advance` meets its contract: where questions 1 to 3 refuse, the rules' decision is that refusal. Assumes nothing.
 use mathlib.Core.Path.{refl, sym, ◌∙◌}
-use mathlib.Core.Logic.{inr}
 use native.Mathlib.Omega.{arith}
 use native.Mathlib.Nat.{sub-zero}
-use Rattle.rules.specs.Lent.{lent, plain}
+use Rattle.rules.specs.Lent.{lent}
 use Rattle.interpreter.proofs.Answers.{by_frame}
 use Rattle.interpreter.proofs.Steps.{advance_other}
 use Rattle.interpreter.proofs.Plain.{plain_framed, without_handlers}
 use Rattle.interpreter.proofs.advancing.advance.Goals as goal
-use Rattle.std.specs.Prelude.{Ok, Err}
 
 pub advance_plain-requires : goal.advance_plain-requires
 advance_plain-requires c = let a = c.args in

@@ -5,7 +5,7 @@ use mathlib.Core.Path.{◌≡◌, refl, sym, ap, ◌∙◌}
 use native.Mathlib.Omega.{arith}
 use native.Mathlib.Nat.{sub-zero}
 use Rattle.rules.specs.declared.states.State.{State}
-use Rattle.rules.specs.Questions.{Method, method}
+use Rattle.rules.specs.Questions.{Method}
 use Rattle.rules.specs.Lent.{lent, plain}
 use Rattle.rules.specs.Step.{decide_of}
 use Rattle.rules.proofs.Legal.{ordinary_legal}
@@ -16,7 +16,6 @@ use Rattle.interpreter.specs.Taken.{reached}
 use Rattle.interpreter.proofs.Steps.{Going, turn, ends_there, all_taken}
 use Rattle.interpreter.proofs.Plain.{plain_framed, without_handlers, caught_settled, decide_caught, Plain, plain_steps, plain_going}
 use Rattle.interpreter.proofs.advancing.advance_framed.Goals as goal
-use Rattle.std.specs.Prelude.{Ok, Err}
 use Rattle.rules.specs.Decisions.{Decision}
 
 -- where plain steps ended: what was decided there by the handlers is what the rules decide, and the steps that are left lead where all of them lead

@@ -1,6 +1,6 @@
 -- `advance_framed` meets its contract. The loop's invariant is `Going`; the measure is how many steps are left. Assumes nothing.
 use Prim.Native.Nat.{◌-◌}
-use Rattle.rules.specs.Lent.{lent, plain}
+use Rattle.rules.specs.Lent.{lent}
 use Rattle.interpreter.proofs.Steps.{Going}
 use Rattle.interpreter.proofs.advancing.advance_framed.Given as goal
 

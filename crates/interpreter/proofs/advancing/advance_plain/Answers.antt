@@ -5,7 +5,6 @@ use Rattle.rules.proofs.Legal.{ordinary_legal}
 use Rattle.return_types.specs.Settled.{settled}
 use Rattle.interpreter.proofs.Steps.{turn, ends_there, all_taken}
 use Rattle.interpreter.proofs.advancing.advance_plain.Goals as goal
-use Rattle.std.specs.Prelude.{Ok, Err}
 
 pub loop-u-init : goal.loop-u-init
 loop-u-init c = let p = c.requires in record { upto = p.taken_le_most; long = refl; framed = p.slots_value; rest = refl }

@@ -1,6 +1,5 @@
 -- `advance_plain` meets its contract. The loop's invariant is `Going`; the measure is how many steps are left. Assumes nothing.
 use Prim.Native.Nat.{◌-◌}
-use mathlib.Core.List.{[]}
 use Rattle.rules.specs.Lent.{lent, plain}
 use Rattle.interpreter.proofs.Steps.{Going}
 use Rattle.interpreter.proofs.advancing.advance_plain.Given as goal

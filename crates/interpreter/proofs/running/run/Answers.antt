@@ -1,9 +1,8 @@
 -- `run` meets its contract. Assumes nothing.
 use mathlib.Core.Path.{sym, ◌∙◌}
-use Rattle.rules.specs.Lent.{lent, plain}
+use Rattle.rules.specs.Lent.{lent}
 use Rattle.interpreter.proofs.Taken.{accounted, refused_run, passed_run}
 use Rattle.interpreter.proofs.running.run.Goals as goal
-use Rattle.std.specs.Prelude.{Err, Ok}
 
 pub run_framed-requires : goal.run_framed-requires
 run_framed-requires c = (sym (c.check_frame-asked.ensures _) ∙ c.in-Ok.is)

@@ -1,12 +1,11 @@
 -- `run_framed` meets its contract. Assumes nothing.
 use mathlib.Core.Path.{ap}
 use native.Mathlib.Omega.{arith}
-use Rattle.rules.specs.Lent.{lent, plain}
+use Rattle.rules.specs.Lent.{lent}
 use Rattle.return_types.specs.Settled.{settled}
 use Rattle.interpreter.proofs.Steps.{settled_other}
 use Rattle.interpreter.proofs.Taken.{no_budget, legal_last, ends_stopped, ends_other}
 use Rattle.interpreter.proofs.running.run_framed.Goals as goal
-use Rattle.std.specs.Prelude.{Ok, Err}
 
 pub returns-then-budget-eq0 : goal.returns-then-budget-eq0
 returns-then-budget-eq0 c = let a = c.args in

@@ -1,11 +1,10 @@
 -- `step` meets its contract. Assumes nothing.
 use mathlib.Core.Path.{ap}
-use Rattle.rules.specs.Lent.{lent, plain}
+use Rattle.rules.specs.Lent.{lent}
 use Rattle.return_types.specs.Settled.{settled}
 use Rattle.interpreter.proofs.Steps.{settled_other, settled_there, legal_there}
 use Rattle.interpreter.proofs.Taken.{step_ordinary, step_other}
 use Rattle.interpreter.proofs.stepping.step.Goals as goal
-use Rattle.std.specs.Prelude.{Ok, Err}
 
 pub returns-in_default : goal.returns-in_default
 returns-in_default c = let a = c.args in
