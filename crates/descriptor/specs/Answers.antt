@@ -2,7 +2,7 @@
 use Rattle.std.specs.Prelude.{ℕ, ◌≤◌, ◌<◌, ◌≡◌, Option, Some, None, cond, List, Ok, Err}
 use Rattle.values.specs.Kinds.{Kind, places_of}
 use Rattle.rules.specs.Check.{Check, ◌>>◌, ◌=ⁿ◌}
-use Rattle.rules.specs.Descriptor.{MethodDescriptor, parameter_kinds, parameters_end, return_type, descriptor_of, descriptor_check}
+use Rattle.rules.specs.Descriptor.{MethodDescriptor, parameter_kinds, parameters_end, descriptor_of, descriptor_check}
 use Rattle.rules.specs.declared.descriptors.Descriptor.{Descriptor}
 use Rattle.descriptor.specs.declared.descriptors.Parameters.{Parameters}
 use Rattle.rules.specs.declared.refusals.Refusal.{Refusal}

@@ -1,21 +1,20 @@
 -- A sheet question by question and record by record, the numbers of its refusals, and the load by the answers to its questions. Assumes nothing.
 use Prim.Native.Nat.{ℕ, zero, suc, ◌-◌, ◌≤◌, ◌<◌}
 use mathlib.Core.Path.{◌≡◌, refl, sym, ap, ◌∙◌}
-use mathlib.Core.Bool.{Bool, true, false, not, ◌||◌, cond}
+use mathlib.Core.Bool.{Bool, true, false, ◌||◌, cond}
 use mathlib.Core.List.{List}
 use native.Mathlib.Omega.{arith}
-use lib.Dec.{ltb, leb, eqb}
+use lib.Dec.{leb, eqb}
 use lib.ListN.{length}
-use borrow.Author.Tests.{ltb-true, leb-true, le-leb, lt-leb, le-ltb, lt-ltb}
+use borrow.Author.Tests.{leb-true, le-leb, lt-leb, le-ltb, lt-ltb}
 use Rattle.rules.specs.declared.sheets.Mark.{Mark}
-use Rattle.rules.specs.declared.sheets.Mark.TheVariants.{LM, DS, CD, KI, EX, AR}
+use Rattle.rules.specs.declared.sheets.Mark.TheVariants.{KI, EX, AR}
 use Rattle.rules.specs.declared.sheets.Reading.{Reading}
 use Rattle.rules.specs.Check.{Check, ◌else◌, ◌>>=◌, ◌>>◌}
 use Rattle.rules.specs.Fetch.{u16}
-use Rattle.rules.specs.Descriptor.{descriptor_check}
 use Rattle.rules.specs.Handlers.{start_pc, end_pc, handler_pc, catch_type}
-use Rattle.rules.specs.Sheet.{body_length, body_at, record_end, known_mark, follows, right_length, descriptor_at, unread, are_taken, last_used, with_record, pool_index, pool_tag, pool_word, tag_suits, word_suits, is_catch_type, class_from, is_class_at, last_index, argument_count, contents_check, contents_read, marked_check, record_check, end_check, read_from, sheet_check, Pool, with_value, pool_from, loaded_pool, loaded_slots, accepted_load, refused_load, memory_check, load_of}
-use Rattle.rules.proofs.Check.{Holds, asked, held, bind_same, Any, Numbered, last_numbered, after_numbered, bound_numbered, asked_numbered, either_numbered, refused_numbered}
+use Rattle.rules.specs.Sheet.{body_length, body_at, record_end, known_mark, follows, right_length, are_taken, last_used, with_record, pool_index, pool_tag, pool_word, tag_suits, word_suits, is_catch_type, class_from, is_class_at, last_index, argument_count, contents_check, contents_read, marked_check, record_check, end_check, read_from, sheet_check, Pool, with_value, pool_from, loaded_pool, loaded_slots, accepted_load, refused_load, memory_check, load_of}
+use Rattle.rules.proofs.Check.{Holds, asked, held, bind_same}
 use Rattle.std.specs.Prelude.{Ok, Err}
 use Rattle.rules.specs.declared.refusals.Refusal.{Refusal}
 

@@ -5,7 +5,6 @@ use mathlib.Core.List.{List}
 use lib.IntN.{pos}
 use lib.ListN.{length}
 use borrow.Author.Tests.{lt-ltb, le-ltb}
-use Rattle.values.specs.declared.Value.{Value}
 use Rattle.rules.specs.declared.states.State.{State}
 use Rattle.rules.specs.declared.updates.Update.{Update}
 use Rattle.rules.specs.Check.{◌else◌, ◌>>◌, ◌>>=◌}

@@ -1,10 +1,14 @@
 -- One record passed, and the end of the records. Assumes nothing.
 use Prim.Native.Nat.{ℕ, ◌-◌, ◌≤◌, ◌<◌}
-use mathlib.Core.Path.{◌≡◌, sym}
+use mathlib.Core.Path.{◌≡◌, refl, sym, ap, subst, ◌∙◌}
+use mathlib.Core.List.{List, [], ◌∷◌}
 use native.Mathlib.Omega.{arith}
-use mathlib.Core.Bool.{false, ◌||◌}
+use mathlib.Core.Bool.{Bool, true, false, ◌||◌}
 use lib.ListN.{length}
-use Rattle.std.specs.Prelude.{Some, Ok, Err}
+use Rattle.std.specs.Prelude.{Option, Some, None, MatchOption, Ok, Err}
+use denote.Param.Members.{Mut, Called}
+use Rattle.std.specs.Iterator.{Yields, ChecksAny}
+use Rattle.std.specs.List.{FoldsTo}
 use Rattle.rules.specs.declared.refusals.Refusal.{Refusal}
 use Rattle.rules.specs.declared.sheets.Reading.{Reading}
 use Rattle.rules.specs.Sheet.{is_class_at, Pool, with_value, record_check, read_from}
@@ -45,3 +49,24 @@ module _ (s : Records) (g : s.end ≤ s.at) where
 
   pub no_constant_left : (p : Pool) → with_constants s p ≡ p
   no_constant_left p = pool_end s.sheet.now s.end (s.end - s.at) s.at p g
+
+-- ---- whether one of the records is that of a class, by the answers of calls on them, one after the other
+
+module _ {F : Type 0} (g : Mut F (Record × Unit {0}) Bool) (index : ℕ) (f : F) where
+  abbrev Told : Type 0
+  Told = (r : Record) (b : Bool) (h : F) → Called g f (r, tt) b h → (b ≡ is_class_at r.sheet.now r.at index) × (h ≡ f)
+
+  any_from : Told → (xs : List Record) (o : Option Record) (s t u : Records) (p q : F) (b : Bool) → p ≡ f → Yields GivesRecord s xs t → GivesRecord t o u
+      → FoldsTo (λ p x q. Called g p (x, tt) false q) p xs q → MatchOption o (b ≡ false) (λ x. (b ≡ true) × ((h : F) × Called g q (x, tt) true h)) → b ≡ has_class s index
+  any_from told [] None s t u p q b k same last folded m = rw same (m ∙ sym (no_class_left t last index))
+  any_from told [] (Some r) s t u p q b k same last folded m =
+      let (passed, call) = m in
+      let e = (told r true call.0 (subst (λ (v : F). Called g v (r, tt) true call.0) (sym folded ∙ k) call.1)).0 in
+      rw same (passed ∙ ap (λ (x : Bool). x || has_class u index) e ∙ sym (class_passed t u r last index))
+  any_from told (r ∷ xs) o s t u p q b k yielded last folded m =
+      let e = told r false folded.0 (subst (λ (v : F). Called g v (r, tt) false folded.0) k folded.1) in
+      any_from told xs o yielded.0 t u folded.0 q b e.1 yielded.2 last folded.2 m
+      ∙ ap (λ (x : Bool). x || has_class yielded.0 index) e.0 ∙ sym (class_passed s yielded.0 r yielded.1 index)
+
+  pub any_class : (s u : Records) (b : Bool) → ChecksAny GivesRecord g s f b u → Told → b ≡ has_class s index
+  any_class s u b ran told = any_from told ran.0 ran.1 s ran.3.0 u f ran.2 b refl ran.3.1 ran.3.2 ran.4 ran.5

@@ -59,7 +59,8 @@ fn accepted_load(p: Reading) -> Loaded
     }
 }
 
-// The load of a sheet that was read: the memory checked, and then filled.
+// The load of a sheet that was read: the memory checked, and then filled. Slots, kinds and words are lent one by one: of a struct that holds them each function that is
+// passed it by `&mut` would promise besides, field by field, that it still holds the same references.
 pub fn load_read(
     sheet: &[u8],
     slots: &mut [u32],

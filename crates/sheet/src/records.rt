@@ -151,15 +151,10 @@ impl Records<'_> {
     ghost use Rattle.sheet.specs.Records.{has_class};
 
     // Of KI records: whether one of them is that of a class with this index.
-    pub(crate) fn has_class(self, index: u16) -> bool
+    pub(crate) fn has_class(mut self, index: u16) -> bool
         ensures { result ≡ has_class self.entry index }
     {
-        for record in self {
-            if record.is_class_at(index) {
-                return true;
-            }
-        }
-        false
+        self.any(|record| record.is_class_at(index))
     }
 }
 

@@ -10,7 +10,7 @@ use history::{back, forward, pressed_by};
 use interpreter::step;
 use rules::Method;
 
-// A step without history.
+// A step without history. Each exported function makes its Method itself: a function for that would take the same four parts by the same names.
 #[unsafe(no_mangle)]
 pub extern "C" fn workbook_step(
     code: &[u8],
