@@ -35,7 +35,7 @@ impl Sizes {
         sheet: 512,
     };
 
-    // The sizes in a head, after the name.
+    // The sizes in a head, after the name; by `as`, for `usize` has no `From<u32>`.
     fn of(head: &Head) -> Sizes {
         Sizes {
             slots: word_at(head, 40) as usize,

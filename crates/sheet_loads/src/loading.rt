@@ -8,22 +8,20 @@ use std::iter::successors;
 use walks::Pool;
 
 // Junk: a first item, and each next one made of the one before it.
-fn junk<T: Copy, F: Fn(T) -> T>(
+fn junk<T: Drop, F: FnMut(&T) -> Option<T> + Drop>(
     alloc: Global,
     first: T,
     next: F,
     count: usize,
 ) -> Result<Vec<T>, AllocError>
-    requires { F.IsAlwaysCallable next }
+    requires { (f : _) (item : _) → F.pre f item }
 {
-    successors(Some(first), |item| Some(next(*item)))
-        .take(count)
-        .collect(alloc)
+    successors(Some(first), next).take(count).collect(alloc)
 }
 
 // Junk words from a first one on.
 fn junk_words(alloc: Global, first: u32, count: usize) -> Result<Vec<u32>, AllocError> {
-    junk(alloc, first, |word| word.wrapping_add(1), count)
+    junk(alloc, first, |word| Some(word.wrapping_add(1)), count)
 }
 
 // Prints what a load answers: the sizes of the frame, and where the code and the handlers lie, or the refusal.
@@ -56,7 +54,12 @@ pub(crate) fn load_and_print<R: Print + AllocGlobal>(
 ) -> io::Result<()> {
     let mut slots = junk_words(rt.alloc(), 0xBEEF_0000, sizes.slots)?;
     let mut pool = Pool {
-        kinds: junk(rt.alloc(), 1u8, |byte| byte.wrapping_add(7), sizes.kinds)?,
+        kinds: junk(
+            rt.alloc(),
+            1u8,
+            |byte| Some(byte.wrapping_add(7)),
+            sizes.kinds,
+        )?,
         words: junk_words(rt.alloc(), 0xDEAD_0000, sizes.words)?,
     };
     let loaded = pool.load(sheet, &mut slots);

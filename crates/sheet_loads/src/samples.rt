@@ -28,7 +28,7 @@ impl Sizes {
         sheet: 66000,
     };
 
-    // The sizes in a head, after the name.
+    // The sizes in a head, after the name; by `as`, for `usize` has no `From<u32>`.
     pub(crate) fn of(head: &Head) -> Sizes {
         Sizes {
             slots: word_at(head, 40) as usize,

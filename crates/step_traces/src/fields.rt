@@ -41,11 +41,12 @@ where
     T::Error: Drop,
     requires { 0 < width }
 {
-    columns
-        .chunks_exact(width)
-        .take(count)
-        .map(|item| number(item))
-        .collect(alloc)
+    let mut all = Vec::new(alloc);
+    // no `map`: tried, and its call with a closure over slices gets no proof
+    for item in columns.chunks_exact(width).take(count) {
+        all.push(number(item))?;
+    }
+    Ok(all)
 }
 
 // The sample in a line.

@@ -16,7 +16,7 @@ fn print_step(rt: &impl Print, steps: u64, code: &[u8], slots: &[u32], s: State)
     if s.depth == 0 {
         return println!(rt; " -");
     }
-    let place = s.max_locals as usize + s.depth as usize - 1;
+    let place = usize::from(s.max_locals) + s.depth as usize - 1;
     let top = slots.get(place).copied().unwrap_or(0);
     println!(rt; " {top:08X}")
 }
