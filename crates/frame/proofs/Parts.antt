@@ -1,6 +1,6 @@
 -- Words written one by one, and into a part of a list that is lent on. Assumes nothing.
 use Prim.Native.Nat.{ℕ, ◌+◌, ◌-◌, ◌≤◌, ◌<◌}
-use mathlib.Core.Path.{◌≡◌, refl, sym, ap, ◌∙◌}
+use mathlib.Core.Path.{◌≡◌, sym, ap, ◌∙◌}
 use mathlib.Core.List.{List, [], ◌∷◌, ◌++◌, append_assoc}
 use native.Mathlib.Omega.{arith}
 use native.Mathlib.Nat.{add_assoc, add-zero}
@@ -8,7 +8,6 @@ use borrow.Rule.Slice.PartMut.{put_mid}
 use lib.Dec.{lit≤}
 use lib.ListN.{length, take, drop, set, take-append-drop, length-drop}
 use lib.Seq.{paste, paste-zero, paste-suc, length-take-le, take-append-add, drop-append-add}
-use Rattle.std.proofs.lemmas.Slice.{put_mid-paste}
 use Rattle.rules.proofs.Pasted.{paste_left}
 
 -- ---- one by one
@@ -43,8 +42,3 @@ paste_part l a e j n ws h k =
     ∙ paste_right (take a l) (drop a l) j n ws
     ∙ ap (λ (z : List ℕ). take a l ++ paste z j ws n) (sym (take-append-drop (e - a) (drop a l)))
     ∙ ap (λ (z : List ℕ). take a l ++ z) (paste_left (take (e - a) (drop a l)) (drop (e - a) (drop a l)) j n ws (omega arith)))
-
--- ---- a part copied over
-
-pub copied : (l ws : List ℕ) (at : ℕ) → put_mid at (at + length ws - at) l ws ≡ paste l at ws (length ws)
-copied l ws at = put_mid-paste at _ l ws ws (length ws) refl (omega arith) refl
