@@ -1,4 +1,4 @@
--- An entry of the log: its old words; and by what was read of it, whether it is sound, and what it gives back. Assumes nothing.
+-- An entry of the log: its words as a chunk; its old words; and by what was read of it, whether it is sound. Assumes nothing.
 use Prim.Native.Nat.{ℕ, zero, suc, ◌+◌, ◌-◌, ◌*◌, ◌/◌, ◌≤◌, ◌<◌}
 use mathlib.Core.Path.{◌≡◌, ap, ◌∙◌}
 use mathlib.Core.Bool.{true, false}
@@ -6,22 +6,17 @@ use mathlib.Core.List.{List, [], ◌∷◌}
 use native.Mathlib.Omega.{arith}
 use lib.Dec.{leb, lit<}
 use lib.ListN.{length, get_or, take, drop, length-drop}
-use lib.Seq.{paste, paste-zero, length-paste, take_all, get_or-take, get_or-drop}
+use lib.Seq.{paste, length-paste, get_or-take, get_or-drop}
 use borrow.Rule.Slice.PartMut.{put_mid}
 use Rattle.std.specs.Simd.{first_chunks}
 use Rattle.std.proofs.lemmas.List.{drop-drop}
 use borrow.Author.Tests.{lt-ltb, le-ltb, le-leb, lt-leb, ne_eqb}
 use Rattle.rules.specs.declared.states.State.{State}
 use Rattle.rules.specs.Check.{◌else◌, ◌>>◌, is_passed}
-use Rattle.rules.specs.Step.{moved}
-use Rattle.rules.specs.History.{entry_at, zeros6, old_words, undo_record, entry_check, restored}
+use Rattle.rules.specs.History.{entry_at, zeros6, old_words, undo_record, entry_check}
 use Rattle.rules.proofs.Check.{last_asked}
 use Rattle.history.specs.declared.undo_log.Entry.{Entry}
-use Rattle.history.specs.Left.{entry_of, taken_back}
-
--- the rest of a list from an index on, as it is lent
-pub rest : (l : List ℕ) (n : ℕ) → take (length l - n) (drop n l) ≡ drop n l
-rest l n = take_all (length l - n) (drop n l) (omega (arith, length-drop n l))
+use Rattle.history.specs.Left.{entry_of}
 
 -- a chunk by its index
 pub chunk_at : (m c k : ℕ) (xs d : List ℕ) → k < c → get_or (first_chunks m c xs) k d ≡ take m (drop (m * k) xs)
@@ -57,10 +52,10 @@ module _ (log : List ℕ) (k : ℕ) (e : Entry) (is : e ≡ entry_of log k) wher
   depth_read : e.depth ≡ get_or log (k + 1) 0
   depth_read = ap (λ (x : Entry). x.depth) is
 
-  pub first_read : e.first ≡ get_or log (k + 2) 0
+  first_read : e.first ≡ get_or log (k + 2) 0
   first_read = ap (λ (x : Entry). x.first) is
 
-  pub many_read : e.many ≡ get_or log (k + 3) 0
+  many_read : e.many ≡ get_or log (k + 3) 0
   many_read = ap (λ (x : Entry). x.many) is
 
   -- ---- whether it is sound
@@ -87,12 +82,3 @@ module _ (log : List ℕ) (k : ℕ) (e : Entry) (is : e ≡ entry_of log k) wher
         pub some_places : e.many ≤ 6 → (e.many ≡ 0 → ⊥) → leb (e.first + e.many) (s.max_locals + s.max_stack) ≡ is_passed (entry_check code s log k)
         unfolding entry_check ◌else◌ ◌>>◌
         some_places few h = simp (← pc_read, ← depth_read, ← first_read, ← many_read, lt-ltb _ _ offset, le-leb _ _ depth, le-leb _ _ few, ne_eqb _ _ h) (last_asked _ _)
-
-  -- ---- what it gives back
-
-  module _ (s : State) (slots : List ℕ) (r : State) (is_state : r ≡ moved s e.pc e.depth (s.count - 1)) where
-    pub nothing_back : e.many ≡ 0 → taken_back r slots log ≡ restored s slots log k
-    nothing_back h = rw (is_state, ← pc_read, ← depth_read, ← many_read, h) (ap (λ (x : List ℕ). taken_back (moved s e.pc e.depth (s.count - 1)) x log) (paste-zero slots (get_or log (k + 2) 0) (drop (k + 4) log)))
-
-    pub words_back : (after : List ℕ) → after ≡ paste slots e.first (drop (k + 4) log) e.many → taken_back r after log ≡ restored s slots log k
-    words_back after h = rw (is_state, h, pc_read, depth_read, first_read, many_read)

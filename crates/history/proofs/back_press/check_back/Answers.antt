@@ -2,9 +2,8 @@
 use native.Mathlib.Omega.{arith}
 use Rattle.std.proofs.lemmas.Result.{err_from_is_err_and}
 use Rattle.rules.specs.Lent.{lent, with_handlers}
-use Prim.Native.Nat.{◌+◌, ◌-◌, ◌≤◌}
+use Prim.Native.Nat.{◌-◌}
 use mathlib.Core.Path.{sym, ◌∙◌}
-use lib.ListN.{length}
 use borrow.Author.Tests.{not-true, not-false}
 use Rattle.rules.specs.History.{entry_at, entry_check}
 use Rattle.rules.proofs.Check.{is_passed_lem}
@@ -24,11 +23,6 @@ returns-then-s-eq0 c = λ handlers.
     let l = with_handlers handlers (lent a.method.now) in
     let f = sym (c.check_frame.ensures _) ∙ c.in_ok-check_frame.was in
     rw (back_first l a.s a.slots.now a.log.now f c.if-s-eq0.true)
-
-pub is_sound-requires : goal.is_sound-requires
-is_sound-requires c = let a = c.args in
-    let long : entry_at (a.s.count - 1) + 10 ≤ length a.log.now = omega (arith, c.if-entries-s.false, c.entries.ensures, c.if-s-eq0.false) in
-    long
 
 pub returns-then-entries-s : goal.returns-then-entries-s
 returns-then-entries-s c = λ handlers.

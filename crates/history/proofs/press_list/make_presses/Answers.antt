@@ -4,18 +4,8 @@ use Rattle.rules.specs.Lent.{lent}
 use Rattle.rules.specs.Step.{core_machine}
 use Prim.Native.Nat.{◌+◌, ◌*◌, ◌≤◌}
 use lib.ListN.{length}
-use Rattle.rules.proofs.Replay.{begins, one_more, all_made}
+use Rattle.rules.proofs.Replay.{one_more, all_made}
 use Rattle.history.proofs.press_list.make_presses.Goals as goal
-
-pub loop-i-init : goal.loop-i-init
-loop-i-init c = let a = c.args in
-    begins (core_machine (lent a.method.now)) a.bytes.now a.s a.slots.now a.log.now a.answers.now
-
-pub write_answer-requires : goal.write_answer-requires
-write_answer-requires c = let a = c.args in
-    let t = c.loop-i in
-    let room : 3 * t.i + 3 ≤ length t.answers = omega (arith, c.loop-i-test.true, c.requires, t.invariant.long_answers) in
-    room
 
 pub loop-i-preserved : goal.loop-i-preserved
 loop-i-preserved c = let a = c.args in
@@ -25,15 +15,6 @@ loop-i-preserved c = let a = c.args in
     let room : 3 * t.i + 3 ≤ length t.answers = omega (arith, c.loop-i-test.true, c.requires, t.invariant.long_answers) in
     rw c.write_answer.ensures
     (one_more l a.bytes.now a.s a.slots.now a.log.now a.answers.now t.i t.t t.slots t.log t.answers t.invariant c.loop-i-test.true room _ p.ensures p.auto.slots p.auto.log)
-
-pub shape_of-slots : goal.shape_of-slots
-shape_of-slots c = c.loop-i.invariant.long_slots
-
-pub shape_of-log : goal.shape_of-log
-shape_of-log c = c.loop-i.invariant.long_log
-
-pub shape_of-answers : goal.shape_of-answers
-shape_of-answers c = c.loop-i.invariant.long_answers
 
 pub returns : goal.returns
 returns c = let a = c.args in
