@@ -1,3 +1,4 @@
 pub mod Absent
 pub mod Entries
 pub mod Fetching
+pub mod Numbers
