@@ -1,56 +1,45 @@
 -- The characters of a name (JVMS 4.4.7, 4.2.2): where the bytes of one stand, the reader gives its size, and where it gives a size, one stands. Assumes nothing.
 use Prim.Native.Nat.{ℕ, zero, suc, ◌+◌, ◌-◌, ◌*◌, ◌/◌, ◌%◌, ◌≤◌, ◌<◌}
 use mathlib.Core.Path.{◌≡◌, refl, sym, subst, ◌∙◌}
-use mathlib.Core.Bool.{Bool, true, false, ◌&&◌, ◌||◌}
+use mathlib.Core.Bool.{Bool, true, false, ◌&&◌}
 use mathlib.Core.List.{List, [], ◌∷◌, ◌++◌}
 use mathlib.Core.Logic.{⊎_elim}
 use native.Mathlib.Omega.{arith}
 use native.Mathlib.Nat.{add_assoc}
 use lib.Dec.{leb, eqb}
 use lib.ListN.{length, drop}
-use borrow.Author.Tests.{leb-true, leb-false, eqb-true, eqb-false, le-leb, lt-leb, ne_eqb}
+use borrow.Author.Tests.{leb-true, leb-false, ne_eqb}
+use Rattle.std.proofs.lemmas.Bool.{and_parts, or_cases, cond_both}
+use Rattle.std.proofs.lemmas.Bool.Decides.{nat_tests}
 use Rattle.rules.specs.Fetch.{u8}
 use Rattle.rules.specs.Descriptor.{slash, semicolon, encoded, is_of_names, Character, character, continues, is_one_byte, is_two_bytes, is_three_bytes, character_size, character_at}
-use Rattle.rules.proofs.Check.{and_true, or_true, cases}
 use Rattle.rules.proofs.Standing.{first_byte, byte_at, Standing, one_stands, join}
 
 -- ---- the sizes, by the bytes
 
 size_one : (a b c : ℕ) → 1 ≤ a → a ≤ 0x7F → is_of_names a ≡ true → character_size a b c ≡ 1
 unfolding character_size
-size_one a b c l h n = simp (le-leb 1 a l, le-leb a 0x7F h, n)
+size_one a b c l h n = grind (arith, nat_tests)
 
 size_two : (a b c : ℕ) → 0xC2 ≤ a → a ≤ 0xDF → 0x80 ≤ b → b ≤ 0xBF → character_size a b c ≡ 2
 unfolding character_size
-size_two a b c l h m k =
-    let u : leb a 0x7F ≡ false = lt-leb a 0x7F (omega arith) in
-    let v : eqb a 0xC0 ≡ false = ne_eqb a 0xC0 (λ e. omega arith) in
-    simp (le-leb 1 a (omega arith), u, v, le-leb 0xC2 a l, le-leb a 0xDF h, le-leb 0x80 b m, le-leb b 0xBF k)
+size_two a b c l h m k = grind (arith, nat_tests)
 
 -- E0 is followed by a byte from A0 on
 size_three : (a b c : ℕ) → 0xE0 ≤ a → a ≤ 0xEF → 0x80 ≤ b → b ≤ 0xBF → (a ≡ 0xE0 → 0xA0 ≤ b) → 0x80 ≤ c → c ≤ 0xBF → character_size a b c ≡ 3
 unfolding character_size
-size_three a b c l h m k f p q =
-    let u : leb a 0x7F ≡ false = lt-leb a 0x7F (omega arith) in
-    let v : eqb a 0xC0 ≡ false = ne_eqb a 0xC0 (λ e. omega arith) in
-    let w : leb a 0xDF ≡ false = lt-leb a 0xDF (omega arith) in
-    let x : (((eqb a 0xE0 && leb 0xA0 b) || (leb 0xE1 a && leb a 0xEF)) ≡ true) = lead (eqb a 0xE0) refl in
-    simp (le-leb 1 a (omega arith), u, v, le-leb 0xC2 a (omega arith), w, x, le-leb 0x80 b m, le-leb b 0xBF k, le-leb 0x80 c p, le-leb c 0xBF q)
-  where
-    lead : (t : Bool) → eqb a 0xE0 ≡ t → (((eqb a 0xE0 && leb 0xA0 b) || (leb 0xE1 a && leb a 0xEF)) ≡ true)
-    lead true e = simp (e, le-leb 0xA0 b (f (eqb-true a 0xE0 e)))
-    lead false e = simp (e, le-leb 0xE1 a (omega (arith, eqb-false a 0xE0 e)), le-leb a 0xEF h)
+size_three a b c l h m k f p q = grind (arith, nat_tests)
 
 -- ---- the bytes of a code unit
 
 encoded_one : (c : ℕ) → 1 ≤ c → c ≤ 0x7F → encoded c ≡ c ∷ []
-encoded_one c l h = simp (le-leb 1 c l, le-leb c 0x7F h)
+encoded_one c l h = grind (arith, nat_tests)
 
 encoded_two : (c : ℕ) → 0x80 ≤ c → c ≤ 0x7FF → encoded c ≡ (0xC0 + c / 64) ∷ (0x80 + c % 64) ∷ []
-encoded_two c l h = simp (le-leb 1 c (omega arith), lt-leb c 0x7F (omega arith), le-leb c 0x7FF h)
+encoded_two c l h = grind (arith, nat_tests)
 
 encoded_three : (c : ℕ) → 0x800 ≤ c → encoded c ≡ (0xE0 + c / 4096) ∷ (0x80 + c / 64 % 64) ∷ (0x80 + c % 64) ∷ []
-encoded_three c l = simp (le-leb 1 c (omega arith), lt-leb c 0x7F (omega arith), lt-leb c 0x7FF (omega arith))
+encoded_three c l = grind (arith, nat_tests)
 
 -- ---- every character is read
 
@@ -115,11 +104,10 @@ module _ (d : List ℕ) (at : ℕ) where
 
   one : is_one_byte (u8 d at) ≡ true → Sized d at 1
   one t =
-      let p = and_true (leb 1 (u8 d at) && leb (u8 d at) 0x7F) (is_of_names (u8 d at)) t in
-      let q = and_true (leb 1 (u8 d at)) (leb (u8 d at) 0x7F) p.0 in
-      let l : 1 ≤ u8 d at = leb-true 1 (u8 d at) q.0 in
-      let h : u8 d at ≤ 0x7F = leb-true (u8 d at) 0x7F q.1 in
-      record { character_there = λ _. (u8 d at ∷ [], subst Character (encoded_one (u8 d at) l h) (character {c = u8 d at} (omega arith) p.1), one_stands d at l) }
+      let n = (and_parts _ (is_of_names (u8 d at)) t).1 in
+      let l : 1 ≤ u8 d at = grind (arith, nat_tests) in
+      let h : u8 d at ≤ 0x7F = grind (arith, nat_tests) in
+      record { character_there = λ _. (u8 d at ∷ [], subst Character (encoded_one (u8 d at) l h) (character {c = u8 d at} (omega arith) n), one_stands d at l) }
 
   -- two bytes and three are those of a code unit
   two_of : (c : ℕ) → c ≤ 0xFFFF → is_of_names c ≡ true → encoded c ≡ u8 d at ∷ u8 d (at + 1) ∷ [] → 0 < u8 d at → 0 < u8 d (at + 1) → Sized d at 2
@@ -133,7 +121,7 @@ module _ (d : List ℕ) (at : ℕ) where
 
 -- a code unit from 80 on may stand in a name
 high_unit : (c : ℕ) → 0x80 ≤ c → is_of_names c ≡ true
-high_unit c h = simp (ne_eqb c 0x2E (λ e. omega arith), ne_eqb c 0x3B (λ e. omega arith), ne_eqb c 0x5B (λ e. omega arith), ne_eqb c 0x2F (λ e. omega arith))
+high_unit c h = grind (arith, nat_tests)
 
 pair : {a b x y : ℕ} → a ≡ x → b ≡ y → ◌≡◌ {A = List ℕ} (a ∷ b ∷ []) (x ∷ y ∷ [])
 pair p q = cc
@@ -142,56 +130,41 @@ triple : {a b c x y z : ℕ} → a ≡ x → b ≡ y → c ≡ z → ◌≡◌ {
 triple p q r = cc
 
 continued : (b : ℕ) → continues b ≡ true → (0x80 ≤ b) × (b ≤ 0xBF)
-continued b t = let p = and_true (leb 0x80 b) (leb b 0xBF) t in (leb-true 0x80 b p.0, leb-true b 0xBF p.1)
+continued b t = grind (arith, nat_tests)
 
 module _ (d : List ℕ) (at : ℕ) where
   two : is_two_bytes (u8 d at) (u8 d (at + 1)) ≡ true → Sized d at 2
-  two t = ⊎_elim null high (or_true _ _ t)
+  two t = ⊎_elim null high (or_cases _ _ t)
     where
       null : (eqb (u8 d at) 0xC0 && eqb (u8 d (at + 1)) 0x80) ≡ true → Sized d at 2
       null u =
-          let p = and_true (eqb (u8 d at) 0xC0) (eqb (u8 d (at + 1)) 0x80) u in
-          let x : u8 d at ≡ 0xC0 = eqb-true (u8 d at) 0xC0 p.0 in
-          let y : u8 d (at + 1) ≡ 0x80 = eqb-true (u8 d (at + 1)) 0x80 p.1 in
+          let x : u8 d at ≡ 0xC0 = grind (arith, nat_tests) in
+          let y : u8 d (at + 1) ≡ 0x80 = grind (arith, nat_tests) in
           two_of d at 0 (omega arith) refl (pair (sym x) (sym y)) (omega arith) (omega arith)
 
       high : (leb 0xC2 (u8 d at) && leb (u8 d at) 0xDF && continues (u8 d (at + 1))) ≡ true → Sized d at 2
       high u =
-          let p = and_true (leb 0xC2 (u8 d at) && leb (u8 d at) 0xDF) (continues (u8 d (at + 1))) u in
-          let q = and_true (leb 0xC2 (u8 d at)) (leb (u8 d at) 0xDF) p.0 in
-          let l : 0xC2 ≤ u8 d at = leb-true 0xC2 (u8 d at) q.0 in
-          let h : u8 d at ≤ 0xDF = leb-true (u8 d at) 0xDF q.1 in
-          let k = continued (u8 d (at + 1)) p.1 in
+          let l : (0xC2 ≤ u8 d at) × (u8 d at ≤ 0xDF) = grind (arith, nat_tests) in
+          let k : (0x80 ≤ u8 d (at + 1)) × (u8 d (at + 1) ≤ 0xBF) = grind (arith, nat_tests) in
           let c : ℕ = (u8 d at - 0xC0) * 64 + (u8 d (at + 1) - 0x80) in
           two_of d at c (omega arith) (high_unit c (omega arith))
           (encoded_two c (omega arith) (omega arith) ∙ pair (omega arith) (omega arith)) (omega arith) (omega arith)
 
   three : is_three_bytes (u8 d at) (u8 d (at + 1)) (u8 d (at + 2)) ≡ true → Sized d at 3
   three t =
-      let p = and_true (lead && continues (u8 d (at + 1))) (continues (u8 d (at + 2))) t in
-      let q = and_true lead (continues (u8 d (at + 1))) p.0 in
-      let k = continued (u8 d (at + 1)) q.1 in
-      let j = leading q.0 k.0 in
-      let l = continued (u8 d (at + 2)) p.1 in
+      let j : (0xE0 ≤ u8 d at) × (u8 d at ≤ 0xEF) × (0xE0 * 64 + 0xA0 ≤ u8 d at * 64 + u8 d (at + 1)) = grind (arith, nat_tests) in
+      let k : (0x80 ≤ u8 d (at + 1)) × (u8 d (at + 1) ≤ 0xBF) = grind (arith, nat_tests) in
+      let l : (0x80 ≤ u8 d (at + 2)) × (u8 d (at + 2) ≤ 0xBF) = grind (arith, nat_tests) in
       let c : ℕ = (u8 d at - 0xE0) * 4096 + (u8 d (at + 1) - 0x80) * 64 + (u8 d (at + 2) - 0x80) in
       three_of d at c (omega arith) (high_unit c (omega arith))
       (encoded_three c (omega arith) ∙ triple (omega arith) (omega arith) (omega arith)) (omega arith) (omega arith) (omega arith)
-    where
-      lead : Bool
-      lead = eqb (u8 d at) 0xE0 && leb 0xA0 (u8 d (at + 1)) || leb 0xE1 (u8 d at) && leb (u8 d at) 0xEF
-
-      leading : lead ≡ true → 0x80 ≤ u8 d (at + 1) → (0xE0 ≤ u8 d at) × (u8 d at ≤ 0xEF) × (0xE0 * 64 + 0xA0 ≤ u8 d at * 64 + u8 d (at + 1))
-      leading e k = ⊎_elim
-          (λ u. let p = and_true (eqb (u8 d at) 0xE0) (leb 0xA0 (u8 d (at + 1))) u in omega (arith, eqb-true (u8 d at) 0xE0 p.0, leb-true 0xA0 (u8 d (at + 1)) p.1))
-          (λ u. let p = and_true (leb 0xE1 (u8 d at)) (leb (u8 d at) 0xEF) u in omega (arith, leb-true 0xE1 (u8 d at) p.0, leb-true (u8 d at) 0xEF p.1))
-          (or_true _ _ e)
 
 pub character_stands : (d : List ℕ) (at : ℕ) → 0 < character_at d at → (b : List ℕ) × Character b × Standing d at b (at + character_at d at)
 unfolding character_size
 character_stands d at h = sized.character_there h
   where
     sized : Sized d at (character_at d at)
-    sized = cases (Sized d at) (is_one_byte (u8 d at)) 1 _ (one d at) (λ _. cases (Sized d at) _ 2 _ (two d at) (λ _. cases (Sized d at) _ 3 0 (three d at) (λ _. none d at)))
+    sized = cond_both (is_one_byte (u8 d at)) 1 _ (Sized d at) (one d at) (λ _. cond_both _ 2 _ (Sized d at) (two d at) (λ _. cond_both _ 3 0 (Sized d at) (three d at) (λ _. none d at)))
 
 -- neither ; nor / begins a character
 pub not_a_character : (a b c : ℕ) → 0 < character_size a b c → (eqb a semicolon ≡ false) × (eqb a slash ≡ false)

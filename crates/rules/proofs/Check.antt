@@ -1,9 +1,8 @@
 -- What a row of questions that is passed says, and what holds of what passes it. Assumes nothing.
-use Prim.Native.Nat.{ℕ}
 use mathlib.Core.Path.{◌≡◌, refl}
-use mathlib.Core.Bool.{Bool, true, false, ◌&&◌, ◌||◌, cond}
+use mathlib.Core.Bool.{Bool, true, false, ◌||◌, cond}
 use mathlib.Core.Logic.{◌⊎◌, inl, inr}
-use native.Mathlib.Omega.{arith}
+use borrow.Author.Tests.{not-true, not-false}
 use Rattle.rules.specs.Check.{Check, ◌else◌, ◌>>=◌, ◌>>◌, is_passed}
 use Rattle.std.specs.Prelude.{Ok, Err}
 use Rattle.rules.specs.declared.refusals.Refusal.{Refusal}
@@ -12,17 +11,17 @@ use Rattle.rules.specs.declared.refusals.Refusal.{Refusal}
 pub first_passed : (t : Bool) (n : Refusal) (x : Check (Unit {0})) → ((t else n) >> x) ≡ Ok tt → (t ≡ true) × (x ≡ Ok tt)
 unfolding ◌else◌ ◌>>◌
 first_passed true n x e = (refl, e)
-first_passed false n x e = let z : ◌≡◌ {A = ℕ} 0 1 = cc in absurd (omega arith)
+first_passed false n x e = absurd (cc)
 
 pub both_passed : (y x : Check (Unit {0})) → (y >> x) ≡ Ok tt → (y ≡ Ok tt) × (x ≡ Ok tt)
 unfolding ◌>>◌
 both_passed (Ok t) x e = (refl, e)
-both_passed (Err n) x e = let z : ◌≡◌ {A = ℕ} 0 1 = cc in absurd (omega arith)
+both_passed (Err n) x e = absurd (cc)
 
 pub last_passed : (t : Bool) (n : Refusal) → (t else n) ≡ Ok tt → t ≡ true
 unfolding ◌else◌
 last_passed true n e = refl
-last_passed false n e = let z : ◌≡◌ {A = ℕ} 0 1 = cc in absurd (omega arith)
+last_passed false n e = absurd (cc)
 
 pub last_asked : (t : Bool) (n : Refusal) → t ≡ is_passed (t else n)
 unfolding ◌else◌
@@ -31,19 +30,11 @@ last_asked false n = refl
 
 pub is_passed_lem : (x : Check (Unit {0})) → is_passed x ≡ true → x ≡ Ok tt
 is_passed_lem (Ok t) e = refl
-is_passed_lem (Err n) e = let z : ◌≡◌ {A = ℕ} 0 1 = cc in absurd (omega arith)
-
-pub and_true : (a b : Bool) → (a && b) ≡ true → (a ≡ true) × (b ≡ true)
-and_true true b e = (refl, e)
-and_true false b e = let z : ◌≡◌ {A = ℕ} 0 1 = cc in absurd (omega arith)
+is_passed_lem (Err n) e = absurd (cc)
 
 pub or_true : (a b : Bool) → (a || b) ≡ true → (a ≡ true) ⊎ (b ≡ true)
 or_true true b e = inl refl
 or_true false b e = inr e
-
-pub or_false : (a b : Bool) → (a || b) ≡ false → (a ≡ false) × (b ≡ false)
-or_false true b e = let z : ◌≡◌ {A = ℕ} 0 1 = cc in absurd (omega arith)
-or_false false b e = (refl, e)
 
 -- a case split on a test in a definition
 pub cases : {A : Type 0} (P : A → Type 0) (t : Bool) (x y : A) → (t ≡ true → P x) → (t ≡ false → P y) → P (cond t x y)
@@ -54,6 +45,32 @@ pub bind_same : {A B : Type 0} (y : Check B) (f g : B → Check A) → ((b : B) 
 unfolding ◌>>=◌
 bind_same (Ok b) f g h = h b
 bind_same (Err n) f g h = refl
+
+-- ---- a row by the answer to its first question, for `grind`
+
+pub asked_either : (t : Bool) (n : Refusal) → ((t ≡ true) × ((t else n) ≡ Ok tt)) ⊎ ((t ≡ false) × ((t else n) ≡ Err n))
+unfolding ◌else◌
+asked_either true n = inl (refl, refl)
+asked_either false n = inr (refl, refl)
+
+module _ {A B : Type 0} (x : Check A) where
+  pub passed_on : (a : A) (y : Check B) → x ≡ Ok a → (x >> y) ≡ y
+  unfolding ◌>>◌
+  passed_on a y e = rw e
+
+  pub refused_on : (n : Refusal) (y : Check B) → x ≡ Err n → (x >> y) ≡ Err n
+  unfolding ◌>>◌
+  refused_on n y e = rw e
+
+  pub bound_on : (a : A) (f : A → Check B) → x ≡ Ok a → (x >>= f) ≡ f a
+  unfolding ◌>>=◌
+  bound_on a f e = rw e
+
+  pub unbound_on : (n : Refusal) (f : A → Check B) → x ≡ Err n → (x >>= f) ≡ Err n
+  unfolding ◌>>=◌
+  unbound_on n f e = rw e
+
+pub ruleset questions = (not-true, not-false, asked_either, passed_on, refused_on, bound_on, unbound_on)
 
 -- ---- what holds of what passes
 

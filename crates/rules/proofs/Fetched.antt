@@ -19,7 +19,7 @@ use Rattle.rules.proofs.Rows.{OfRow, every_row_lem, of_row, own_opcode}
 use Rattle.std.specs.Prelude.{Ok, Some, None, Option}
 
 core_row_lem : (o : Option Row) (r : Row) → core_row o ≡ Ok r → o ≡ Some r
-core_row_lem None r e = let z : ◌≡◌ {A = ℕ} 0 1 = cc in absurd (omega arith)
+core_row_lem None r e = absurd (cc)
 core_row_lem (Some q) r e = cc
 
 own_row : (n : ℕ) (r : Row) → row_of n ≡ Some r → row_of r.opcode ≡ Some r
@@ -96,7 +96,7 @@ past : (pc : ℕ) → pc ≤ aligned pc
 past pc = omega arith
 
 no_switch : {A : Type 0} (f g : Format) → is_switch f ≡ false → is_switch g ≡ true → f ≡ g → A
-no_switch f g h k e = let z : ◌≡◌ {A = Bool} true false = sym k ∙ ap is_switch (sym e) ∙ h in let y : ◌≡◌ {A = ℕ} 0 1 = cc in absurd (omega arith)
+no_switch f g h k e = let z : ◌≡◌ {A = Bool} true false = sym k ∙ ap is_switch (sym e) ∙ h in absurd (cc)
 
 module _ (code : List ℕ) (pc : ℕ) where
   abbrev S : Instruction → Type 0
@@ -127,7 +127,7 @@ module _ (code : List ℕ) (pc : ℕ) where
         in_code = omega arith;
         int_constant = int_32 _;
         tables = λ e. (refl, k);
-        lookups = λ e. let z : ◌≡◌ {A = ℕ} 0 1 = cc in absurd (omega arith);
+        lookups = λ e. absurd (cc);
       }
 
   by_pairs : (r : Row) → row_of r.opcode ≡ Some r → r.format ≡ pairs → (pos 0 ≤ᶻ pair_count code pc) ≡ true → leb (pairs_end code pc) (length code) ≡ true
@@ -141,7 +141,7 @@ module _ (code : List ℕ) (pc : ℕ) where
         ruled = refl;
         in_code = omega arith;
         int_constant = int_32 _;
-        tables = λ e. let z : ◌≡◌ {A = ℕ} 0 1 = cc in absurd (omega arith);
+        tables = λ e. absurd (cc);
         lookups = λ e. (refl, k);
       }
 

@@ -9,10 +9,11 @@ use lib.Dec.{eqb}
 use lib.ListN.{length, drop, length-append}
 use borrow.Author.Tests.{eqb-true, eq-eqb}
 use Rattle.values.specs.Kinds.{Kind}
+use Rattle.std.proofs.lemmas.Bool.{cond_both, or_cases}
+use Rattle.std.proofs.lemmas.Bool.Decides.{nat_tests}
 use Rattle.rules.specs.Fetch.{u8}
 use Rattle.rules.specs.Descriptor.{byte_type, char_type, double_type, float_type, int_type, long_type, class_type, short_type, boolean_type, array_type, semicolon, ClassName, BaseType, b_byte, c_char, d_double, f_float, i_int, j_long, s_short, z_boolean, FieldType, base_field, class_field, array_field, name_end, brackets_end, is_base, element_end, field_end, kind_of}
-use Rattle.rules.proofs.Check.{cases, or_true}
-use Rattle.rules.proofs.Standing.{not_above, inside, first_byte, rest_after, Standing, one_stands, byte_stands, join}
+use Rattle.rules.proofs.Standing.{inside, first_byte, rest_after, Standing, one_stands, byte_stands, join}
 use Rattle.rules.proofs.Names.{name_stands, name_enough, name_read}
 
 -- ---- the base types
@@ -20,20 +21,19 @@ use Rattle.rules.proofs.Names.{name_stands, name_enough, name_read}
 base : (c : ℕ) → is_base c ≡ true → BaseType c (kind_of c)
 base c e =
     ⊎_elim (λ e. ⊎_elim (λ e. ⊎_elim (λ e. ⊎_elim (λ e. ⊎_elim (λ e. ⊎_elim (λ e. ⊎_elim
-    (is byte_type b_byte) (is char_type c_char) (or_true _ _ e))
-    (is double_type d_double) (or_true _ _ e))
-    (is float_type f_float) (or_true _ _ e))
-    (is int_type i_int) (or_true _ _ e))
-    (is long_type j_long) (or_true _ _ e))
-    (is short_type s_short) (or_true _ _ e))
-    (is boolean_type z_boolean) (or_true _ _ e)
+    (is byte_type b_byte) (is char_type c_char) (or_cases _ _ e))
+    (is double_type d_double) (or_cases _ _ e))
+    (is float_type f_float) (or_cases _ _ e))
+    (is int_type i_int) (or_cases _ _ e))
+    (is long_type j_long) (or_cases _ _ e))
+    (is short_type s_short) (or_cases _ _ e))
+    (is boolean_type z_boolean) (or_cases _ _ e)
   where
     is : (x : ℕ) → BaseType x (kind_of x) → eqb c x ≡ true → BaseType c (kind_of c)
     is x b t = rw (eqb-true c x t) b
 
 base_above : (c : ℕ) → is_base c ≡ true → 0 < c
-base_above zero e = let z : ◌≡◌ {A = ℕ} 0 1 = cc in absurd (omega arith)
-base_above (suc c) e = omega arith
+base_above c e = grind (arith, nat_tests)
 
 is_base_lem : {c : ℕ} {k : Kind} → BaseType c k → (is_base c ≡ true) × (eqb c array_type ≡ false) × (kind_of c ≡ k)
 is_base_lem b_byte = (refl, refl, refl)
@@ -60,9 +60,9 @@ module _ (d : List ℕ) where
   element_to : (n at : ℕ) → FieldTo d at n (kind_of (u8 d at)) (element_end d at)
   unfolding element_end
   element_to n at =
-      cases To (is_base (u8 d at)) (at + 1) _
+      cond_both (is_base (u8 d at)) (at + 1) _ To
       (λ e. record { field_there = λ _. (0, omega arith, u8 d at ∷ [], base_field (base (u8 d at) e), one_stands d at (base_above (u8 d at) e)) })
-      (λ _. cases To (eqb (u8 d at) class_type) (name_end (length d) d (at + 1)) 0 class (λ _. record { field_there = λ h. absurd (omega arith) }))
+      (λ _. cond_both (eqb (u8 d at) class_type) (name_end (length d) d (at + 1)) 0 To class (λ _. record { field_there = λ h. absurd (omega arith) }))
     where
       To : ℕ → Type 0
       To end = FieldTo d at n (kind_of (u8 d at)) end
@@ -78,7 +78,7 @@ module _ (d : List ℕ) where
   unfolding brackets_end
   field_to zero h at = element_to zero at
   field_to (suc n) h at =
-      cases To (eqb (u8 d at) array_type) (brackets_end n d (at + 1)) at (λ e. record { field_there = λ k. array (eqb-true (u8 d at) array_type e) ((field_to n (omega arith) (at + 1)).field_there k) }) (λ _. element_to (suc n) at)
+      cond_both (eqb (u8 d at) array_type) (brackets_end n d (at + 1)) at To (λ e. record { field_there = λ k. array (eqb-true (u8 d at) array_type e) ((field_to n (omega arith) (at + 1)).field_there k) }) (λ _. element_to (suc n) at)
     where
       To : ℕ → Type 0
       To at' = FieldTo d at (suc n) (kind_of (u8 d at)) (element_end d at')
@@ -95,7 +95,7 @@ module _ (d : List ℕ) where
   field_forward at h = let (m, b, t, s) = field_stands at h in omega (arith, s.ends, s.within, field_bytes t)
 
   pub field_past : (at : ℕ) → length d ≤ at → field_end d at ≡ 0
-  field_past at h = not_above (field_end d at) (λ k. omega (arith, field_forward at k))
+  field_past at h = grind (arith, field_forward at)
 
 -- ---- every field type is read
 
@@ -127,7 +127,7 @@ module _ (d : List ℕ) where
   unfolding brackets_end
   brackets_within zero at h = h
   brackets_within (suc n) at h =
-      cases (λ (x : ℕ). x ≤ length d) (eqb (u8 d at) array_type) (brackets_end n d (at + 1)) at
+      cond_both (eqb (u8 d at) array_type) (brackets_end n d (at + 1)) at (λ (x : ℕ). x ≤ length d)
       (λ e. brackets_within n (at + 1) (omega (arith, inside d at (omega (arith, eqb-true (u8 d at) array_type e))))) (λ _. h)
 
   element_read : {b : List ℕ} {k : Kind} (n at : ℕ) (rest : List ℕ) → FieldType 0 b k → drop at d ≡ b ++ rest

@@ -66,7 +66,7 @@ module _ (code : List ℕ) (s : State) (log : List ℕ) (k : ℕ) where
       go true false c d e = refl
       go true true false d e = refl
       go true true true false e = refl
-      go true true true true e = let z : ◌≡◌ {A = ℕ} 0 1 = cc in absurd (omega arith)
+      go true true true true e = absurd (cc)
 
 -- ---- the questions of back
 

@@ -7,10 +7,10 @@ use native.Mathlib.Omega.{arith}
 use lib.Dec.{eqb}
 use lib.ListN.{length, drop, length-append}
 use borrow.Author.Tests.{eqb-true, eqb-false, eq-eqb, ne_eqb}
+use Rattle.std.proofs.lemmas.Bool.{cond_both}
 use Rattle.rules.specs.Fetch.{u8}
 use Rattle.rules.specs.Descriptor.{slash, semicolon, Character, UnqualifiedName, last_character, next_character, ClassName, last_name, next_name, character_at, name_end}
-use Rattle.rules.proofs.Check.{cases}
-use Rattle.rules.proofs.Standing.{not_above, first_byte, rest_after, Standing, byte_stands, join}
+use Rattle.rules.proofs.Standing.{first_byte, rest_after, Standing, byte_stands, join}
 use Rattle.rules.proofs.Characters.{character_bytes, character_read, character_stands, not_a_character}
 
 -- ---- whatever is read is a name
@@ -27,7 +27,7 @@ record NameTo (d : List ℕ) (at end : ℕ) : Type 0 where
 name_after : (d : List ℕ) (at mid : ℕ) (b : List ℕ) → Character b → Standing d at b mid → (x y : ℕ) → NameTo d (mid + 1) x → NameTo d mid y
     → NameTo d at (cond (eqb (u8 d mid) semicolon) (mid + 1) (cond (eqb (u8 d mid) slash) x y))
 name_after d at mid b h s x y after next =
-    cases (NameTo d at) (eqb (u8 d mid) semicolon) (mid + 1) _ ended (λ _. cases (NameTo d at) (eqb (u8 d mid) slash) x y parted (λ _. record { name_there = λ k. continued (next.name_there k) }))
+    cond_both (eqb (u8 d mid) semicolon) (mid + 1) _ (NameTo d at) ended (λ _. cond_both (eqb (u8 d mid) slash) x y (NameTo d at) parted (λ _. record { name_there = λ k. continued (next.name_there k) }))
   where
     ended : eqb (u8 d mid) semicolon ≡ true → NameTo d at (mid + 1)
     ended e = record { name_there = λ _. (b, last_name (last_character h), join d s (byte_stands d mid semicolon (eqb-true (u8 d mid) semicolon e) (omega arith))) }
@@ -45,7 +45,7 @@ name_to : (n : ℕ) (d : List ℕ) (at : ℕ) → NameTo d at (name_end n d at)
 unfolding name_end
 name_to zero d at = record { name_there = λ h. absurd (omega arith) }
 name_to (suc n) d at =
-    cases (NameTo d at) (eqb (character_at d at) 0) 0 _
+    cond_both (eqb (character_at d at) 0) 0 _ (NameTo d at)
     (λ _. record { name_there = λ h. absurd (omega arith) })
     (λ e. let c = character_stands d at (omega (arith, eqb-false (character_at d at) 0 e)) in
     name_after d at (at + character_at d at) c.0 c.1 c.2 _ _ (name_to n d (at + character_at d at + 1)) (name_to n d (at + character_at d at)))
@@ -60,7 +60,7 @@ name_forward n d at h = let (b, k, s) = name_stands n d at h in omega (arith, s.
 
 module _ (d : List ℕ) where
   pub name_past : (n at : ℕ) → length d ≤ at → name_end n d at ≡ 0
-  name_past n at h = not_above (name_end n d at) (λ k. omega (arith, name_forward n d at k))
+  name_past n at h = grind (arith, name_forward n d at)
 
   same_next : (m n at : ℕ) → ((next : ℕ) → at < next → name_end m d next ≡ name_end n d next) → name_end (suc m) d at ≡ name_end (suc n) d at
   unfolding name_end

@@ -3,7 +3,6 @@ use Prim.Native.Nat.{ℕ}
 use mathlib.Core.Path.{◌≡◌, refl}
 use mathlib.Core.Bool.{Bool, true, false, ◌&&◌, ◌||◌, cond}
 use mathlib.Core.List.{List, []}
-use native.Mathlib.Omega.{arith}
 use borrow.Author.Tests.{eqb-true}
 use lib.Dec.{eqb}
 use lib.IntN.{ℤ, pos, negsuc}
@@ -136,7 +135,7 @@ not_14 : (r : Refusal) → OfStep r → Not14 r
 not_14 r h = go (eqb (number_of r) 14) refl
   where
     go : (b : Bool) → eqb (number_of r) 14 ≡ b → b ≡ false
-    go true e = let z : ((1 ≤ⁿ 14) && (14 ≤ⁿ 11) || (14 =ⁿ 32)) ≡ true = rw (eqb-true (number_of r) 14 e) at h in let y : ◌≡◌ {A = ℕ} 0 1 = cc in absurd (omega arith)
+    go true e = let z : ((1 ≤ⁿ 14) && (14 ≤ⁿ 11) || (14 =ⁿ 32)) ≡ true = rw (eqb-true (number_of r) 14 e) at h in absurd (cc)
     go false e = refl
 
 pub never_14 : (d : Decision) → IfRefused OfStep d → IfRefused Not14 d

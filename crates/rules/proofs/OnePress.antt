@@ -2,7 +2,7 @@
 -- Assumes nothing.
 use Prim.Native.Nat.{ℕ, zero, suc, ◌+◌, ◌-◌, ◌*◌, ◌≤◌, ◌<◌, max}
 use mathlib.Core.Path.{◌≡◌, refl, sym, ap, ◌∙◌}
-use mathlib.Core.Bool.{Bool, true, false, ◌||◌, cond}
+use mathlib.Core.Bool.{Bool, true, false, cond}
 use mathlib.Core.List.{List, [], ◌∷◌}
 use native.Mathlib.Omega.{arith}
 use native.Mathlib.Nat.{add-zero, zero-add}
@@ -10,7 +10,8 @@ use native.Mathlib.Numerals.{add-one}
 use borrow.Author.Tests.{ltb-true, leb-true, le-leb, lt-ltb, ltb-false}
 use lib.ListN.{length, get_or, take, drop, length-drop}
 use lib.Seq.{paste, take-paste, length-paste}
-use lib.Dec.{ltb, leb}
+use lib.Dec.{ltb, leb, eqb}
+use Rattle.std.proofs.lemmas.Bool.{or_right}
 use Rattle.rules.specs.declared.states.State.{State}
 use Rattle.rules.specs.declared.updates.Update.{Update}
 use Rattle.rules.specs.Check.{◌else◌, ◌>>◌}
@@ -69,14 +70,14 @@ record Led (f : PlainWalk) (o : Option Stage) (b : Stage) : Type 0 where
   is_next : record { pc = by.pc; depth = by.depth; frame = written by from.frame } ≡ b
 
 led : (f : PlainWalk) (o : Option Stage) (b : Stage) → next f o ≡ Some b → Led f o b
-led f None b e = let z : ◌≡◌ {A = ℕ} 0 1 = cc in absurd (omega arith)
+led f None b e = absurd (cc)
 led f (Some t) b e = go (decision_at f t).decision refl e
   where
     go : (d : Decision) → (decision_at f t).decision ≡ d → follow_by t d ≡ Some b → Led f (Some t) b
     go (Ok u) q h = record { from = t; by = u; is_stage = refl; is_decision = q; is_next = cc }
-    go (Err (Return v)) q h = let z : ◌≡◌ {A = ℕ} 0 1 = cc in absurd (omega arith)
-    go (Err Throw) q h = let z : ◌≡◌ {A = ℕ} 0 1 = cc in absurd (omega arith)
-    go (Err (Refused n)) q h = let z : ◌≡◌ {A = ℕ} 0 1 = cc in absurd (omega arith)
+    go (Err (Return v)) q h = absurd (cc)
+    go (Err Throw) q h = absurd (cc)
+    go (Err (Refused n)) q h = absurd (cc)
 
 led_legal : (f : PlainWalk) → Lawful f.machine → (t : Stage) (u : Update) → (decision_at f t).decision ≡ Ok u → Legal f.machine.runs (moved f.state t.pc t.depth 0) f.slots u
 led_legal f law t u e = ordinary_by f.machine law f.slots (moved f.state t.pc t.depth 0) t.frame u e
@@ -280,11 +281,7 @@ module _ (f : PlainWalk) (law : Lawful f.machine) (slots₀ : List ℕ) (whole :
       back_sound =
           let g = last_legal in
           let e = g.frame_there in
-          simp (back_pc, back_depth, back_first, back_many, lt-ltb _ _ e.in_code, le-leb last.from.depth s.max_stack (omega (arith, e.deep, c.same_method.stacked)), le-leb last.by.many 6 g.few, le-leb (last.by.first + last.by.many) (s.max_locals + s.max_stack) (omega (arith, g.within, same_size)), or_true)
-        where
-          or_true : (b : Bool) → (b || true) ≡ true
-          or_true true = refl
-          or_true false = refl
+          simp (back_pc, back_depth, back_first, back_many, lt-ltb _ _ e.in_code, le-leb last.from.depth s.max_stack (omega (arith, e.deep, c.same_method.stacked)), le-leb last.by.many 6 g.few, le-leb (last.by.first + last.by.many) (s.max_locals + s.max_stack) (omega (arith, g.within, same_size)), or_right (eqb last.by.many 0) true refl)
 
       back_frame : take (frame_size s) (paste slots last.by.first (drop (10 * k + 4) log) last.by.many) ≡ last.from.frame
       back_frame =

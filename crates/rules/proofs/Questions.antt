@@ -88,6 +88,9 @@ module _ (l : Method) (s : State) (n : ℕ) where
             unfolding frame_check ◌else◌ ◌>>◌
             too_deep i h = simp (eq-eqb _ _ paired, le-leb _ _ pool, le-leb _ _ room, le-leb _ _ some_code, le-leb _ _ short_code, lt-ltb _ _ i, lt-leb _ _ h)
 
+-- each answer of questions 1 to 3, for `grind`
+pub ruleset frame_answers = (unpaired, long_pool, no_room, no_code, long_code, outside, too_deep, frame_passed)
+
 -- ---- questions 4 and 5
 
 module _ (code : List ℕ) (pc : ℕ) where

@@ -11,7 +11,8 @@ use Rattle.values.specs.Kinds.{Kind, places, places_of}
 use Rattle.rules.specs.Forms.{Row, Rule, Operand, Result, pushes, stores, divides, branches, returns, Source, stack, local, pool, Format, alone, implied, byte, short, index, index2, index_const, branch, branch4, table, pairs, widened}
 use Rattle.rules.specs.Instructions.{instructions, row_in, row_of}
 use Rattle.rules.specs.Questions.{locals_below}
-use Rattle.rules.proofs.Check.{and_true}
+use Rattle.std.proofs.lemmas.Bool.{and_parts}
+use Rattle.std.proofs.lemmas.Bool.Decides.{nat_tests}
 use Rattle.std.specs.Prelude.{Some, None, Option}
 
 -- ---- what is computed of every row
@@ -80,7 +81,7 @@ unfolding instructions
 small_row n = every_row_lem (λ r. small r.rule) (λ r. true) refl n
 
 pub few_pushed : (r : Rule) → small r ≡ true → places_of r.gives ≤ 6
-few_pushed r e = leb-true _ _ (and_true (leb (places_of r.gives) 6) (few_locals r.locals) e).0
+few_pushed r e = grind (arith, nat_tests)
 
 -- the one local that a rule names, if any
 pub data OneLocal : List Kind → Type 0 where
@@ -88,12 +89,12 @@ pub data OneLocal : List Kind → Type 0 where
   one_local : (k : Kind) → places k ≤ 6 → OneLocal (k ∷ [])
 
 pub one_named : (r : Rule) → small r ≡ true → OneLocal r.locals
-one_named r e = go r.locals (and_true (leb (places_of r.gives) 6) (few_locals r.locals) e).1
+one_named r e = go r.locals (and_parts (leb (places_of r.gives) 6) (few_locals r.locals) e).1
   where
     go : (ks : List Kind) → few_locals ks ≡ true → OneLocal ks
     go [] h = no_local
     go (k ∷ []) h = one_local k (leb-true (places k) 6 h)
-    go (k ∷ j ∷ ks) h = let z : ◌≡◌ {A = ℕ} 0 1 = cc in absurd (omega arith)
+    go (k ∷ j ∷ ks) h = absurd (cc)
 
 pub few_named : {ks : List Kind} → OneLocal ks → places_of ks ≤ 6
 few_named no_local = omega arith
@@ -102,7 +103,7 @@ few_named (one_local k h) = omega arith
 -- question 8 says of it that all its places are below the limit
 pub local_within : (limit x : ℕ) {ks : List Kind} → OneLocal ks → locals_below limit x ks ≡ true → 0 < places_of ks → x + places_of ks ≤ limit
 local_within limit x no_local e h = absurd (omega arith)
-local_within limit x (one_local k _) e h = let c = leb-true (x + places k) limit (and_true (leb (x + places k) limit) true e).0 in omega arith
+local_within limit x (one_local k _) e h = grind (arith, nat_tests)
 
 -- ---- a test of every opcode
 

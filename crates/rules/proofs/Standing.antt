@@ -1,37 +1,23 @@
 -- Bytes that stand from an offset on. Assumes nothing.
-use Prim.Native.Nat.{ℕ, zero, suc, ◌+◌, ◌≤◌, ◌<◌}
-use mathlib.Core.Path.{◌≡◌, refl, sym, ap, ◌∙◌}
-use mathlib.Core.Bool.{Bool, true, false}
+use Prim.Native.Nat.{ℕ, ◌+◌, ◌≤◌, ◌<◌}
+use mathlib.Core.Path.{◌≡◌, sym, ap, ◌∙◌}
 use mathlib.Core.List.{List, [], ◌∷◌, ◌++◌, append_assoc, append-nil}
 use native.Mathlib.Omega.{arith}
 use native.Mathlib.Nat.{add-zero}
-use native.Mathlib.Numerals.{add-one}
-use lib.Dec.{leb}
-use lib.ListN.{length, get_or, drop, length-append, get_or-eq_default}
-use lib.Seq.{drop-cons, drop-drop, drop-append_seam, drop-length, get_or-drop}
-use borrow.Author.Tests.{leb-true, leb-false}
+use lib.ListN.{length, get_or, drop, length-append}
+use lib.Seq.{drop-drop, drop-append_seam, drop-length, get_or-drop}
+use Rattle.std.proofs.lemmas.List.{get_or_past, drop_more}
 use Rattle.rules.specs.Fetch.{u8}
-
-pub not_above : (n : ℕ) → (0 < n → ⊥) → n ≡ 0
-not_above zero h = refl
-not_above (suc n) h = absurd (h (omega arith))
 
 module _ (d : List ℕ) where
   pub inside : (at : ℕ) → 0 < u8 d at → at < length d
-  inside at h = go (leb (length d) at) refl
-    where
-      go : (t : Bool) → leb (length d) at ≡ t → at < length d
-      go true e = absurd (omega (arith, get_or-eq_default d 0 (leb-true (length d) at e)))
-      go false e = leb-false (length d) at e
+  inside at h = grind (arith, get_or_past)
 
   pub byte_at : (at : ℕ) (l : List ℕ) → drop at d ≡ l → (i : ℕ) → u8 d (at + i) ≡ u8 l i
   byte_at at l e i = sym (get_or-drop at d i 0) ∙ ap (λ (x : List ℕ). get_or x i 0) e
 
   pub first_byte : (at : ℕ) (l : List ℕ) → drop at d ≡ l → u8 d at ≡ u8 l 0
   first_byte at l e = rw add-zero at (byte_at at l e 0)
-
-  pub one_byte : (at : ℕ) → at < length d → drop at d ≡ u8 d at ∷ drop (at + 1) d
-  one_byte at h = rw (add-one, drop-cons d at 0)
 
   pub rest_after : (at : ℕ) (b rest : List ℕ) → drop at d ≡ b ++ rest → drop (at + length b) d ≡ rest
   rest_after at b rest e = sym (drop-drop (length b) at d) ∙ ap (drop (length b)) e ∙ drop-append_seam b rest
@@ -44,7 +30,7 @@ pub record Standing (d : List ℕ) (at : ℕ) (b : List ℕ) (end : ℕ) : Type 
 
 module _ (d : List ℕ) where
   pub one_stands : (at : ℕ) → 0 < u8 d at → Standing d at (u8 d at ∷ []) (at + 1)
-  one_stands at h = record { there = one_byte d at (inside d at h); ends = omega arith; within = omega (arith, inside d at h) }
+  one_stands at h = record { there = drop_more d at 0 (inside d at h); ends = omega arith; within = omega (arith, inside d at h) }
 
   pub byte_stands : (at x : ℕ) → u8 d at ≡ x → 0 < x → Standing d at (x ∷ []) (at + 1)
   byte_stands at x e h = rw e at (one_stands at (omega arith))

@@ -14,7 +14,6 @@ use Rattle.rules.specs.Questions.{Method, frame_check, needs_check}
 use Rattle.rules.specs.Step.{words_at, inside, outcome, decision, decide_frame, Machine, decide_on, moved, written, cleared}
 use Rattle.rules.specs.Run.{ends, run_from}
 use Rattle.std.specs.Prelude.{Bool, true, false, ltb, Ok, Err, Some, None}
-use native.Mathlib.Omega.{arith}
 use Rattle.rules.specs.declared.refusals.Refusal.{Refusal}
 use Rattle.rules.specs.declared.halts.Halt.TheVariants.{Refused}
 use Rattle.rules.specs.declared.halts.Halt.{Halt}
@@ -35,7 +34,7 @@ inside_place code n x e = go (ltb n (length code)) e
   where
     go : (t : Bool) → ((t else Refusal.Target) >> Ok n) ≡ Ok x → n ≡ x
     go true e = cc
-    go false e = let z : ◌≡◌ {A = ℕ} 0 1 = cc in absurd (omega arith)
+    go false e = absurd (cc)
 
 -- ---- the decision
 
