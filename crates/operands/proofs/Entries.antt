@@ -1,12 +1,13 @@
 -- TABLESWITCH: a key between the lowest and the highest finds its own entry, and any other the default. Assumes nothing.
-use Rattle.std.proofs.Common.{◌≡◌, ℕ, zero, suc, ◌+◌, ◌-◌, ◌*◌, ◌%◌, ◌^◌, ◌<◌, ◌≤◌, Bool, true, false, cond, ltb, List, ℤ, pos, negsuc, ◌+ℤ◌, ◌-ℤ◌, neg_ℤ, nat_abs, sym, refl, ap, ◌∙◌, ap₂, arith, le-ltb, lt-ltb, eq-eqb, ne_eqb}
+use Rattle.std.proofs.Common.{◌≡◌, ℕ, zero, suc, ◌+◌, ◌-◌, ◌*◌, ◌%◌, ◌^◌, ◌<◌, ◌≤◌, Bool, true, false, cond, ltb, List, ℤ, pos, negsuc, ◌+ℤ◌, ◌-ℤ◌, sym, refl, ap, ◌∙◌, ap₂, arith, le-ltb, lt-ltb, eq-eqb, ne_eqb}
 use lib.Dec.{leb-suc-suc}
-use lib.IntN.{suc_ℤ, pred_ℤ, +ℤ_idl, +ℤ_idr, +ℤ_one, +ℤ_assoc, +ℤ_comm, +ℤ_invl, +ℤ-pred_ℤ, suc_ℤ-+ℤ, suc-pred, -ℤ-+ℤ_cancel}
+use lib.IntN.{+ℤ_idr}
+use borrow.Author.Differences.{ints}
 use Rattle.values.specs.Integers.{signed, ◌=ᶻ◌, ◌≤ᶻ◌}
 use Rattle.rules.specs.Forms.{offset_for}
 use Rattle.rules.specs.Fetch.{u32, s32, aligned, low_key, high_key, keys, offsets_from}
 use Rattle.operands.specs.Switch.{table_offset}
-use Rattle.operands.proofs.Differences.{Difference, raised, word_difference, word_order, word_unordered}
+use Rattle.operands.proofs.Differences.{raised, signed_difference, word_order, word_unordered}
 use Rattle.operands.proofs.Readings.{word_means}
 use Rattle.operands.proofs.Tables.{raised_sum, distance, low_key_lem, key_order, key_count}
 
@@ -22,14 +23,6 @@ unequal (pos m) (negsuc n) f = refl
 unequal (negsuc m) (pos n) f = refl
 unequal (negsuc m) (negsuc n) f = ne_eqb m n (λ e. f (ap negsuc e))
 
--- what is added to x and leaves it is 0
-added_nothing : (x z : ℤ) → x +ℤ z ≡ x → z ≡ pos 0
-added_nothing x z e = sym (+ℤ_idl z) ∙ ap (λ (y : ℤ). y +ℤ z) (sym (+ℤ_invl x)) ∙ +ℤ_assoc (neg_ℤ x) x z ∙ ap (λ (y : ℤ). neg_ℤ x +ℤ y) e ∙ +ℤ_invl x
-
--- one more and one less
-one_on : (x z : ℤ) → x +ℤ pos 1 +ℤ pred_ℤ z ≡ x +ℤ z
-one_on x z = ap (λ (y : ℤ). y +ℤ pred_ℤ z) (+ℤ_one x) ∙ suc_ℤ-+ℤ x (pred_ℤ z) ∙ ap suc_ℤ (+ℤ-pred_ℤ x z) ∙ suc-pred (x +ℤ z)
-
 -- ---- the key that is z past the lowest, among n
 
 unfoldable entry : List ℕ → ℤ → ℕ → ℕ → ℤ → ℤ
@@ -37,12 +30,12 @@ entry code default at n (pos i) = cond (ltb i n) (s32 code (at + 4 * i)) default
 entry code default at n (negsuc i) = default
 
 module _ (code : List ℕ) (default : ℤ) where
-  later : (n at : ℕ) (low z : ℤ) → (z ≡ pos 0 → ⊥)
-      → offset_for (low +ℤ z) default (offsets_from code at low (suc n)) ≡ offset_for (low +ℤ pos 1 +ℤ pred_ℤ z) default (offsets_from code (at + 4) (low +ℤ pos 1) n)
+  later : (n at : ℕ) (low z y : ℤ) → (z ≡ pos 0 → ⊥) → z ≡ y +ℤ pos 1
+      → offset_for (low +ℤ z) default (offsets_from code at low (suc n)) ≡ offset_for (low +ℤ pos 1 +ℤ y) default (offsets_from code (at + 4) (low +ℤ pos 1) n)
   unfolding offsets_from
-  later n at low z f =
-      ap (λ (t : Bool). cond t (s32 code at) (offset_for (low +ℤ z) default (offsets_from code (at + 4) (low +ℤ pos 1) n))) (unequal (low +ℤ z) low (λ e. f (added_nothing low z e)))
-      ∙ ap (λ (key : ℤ). offset_for key default (offsets_from code (at + 4) (low +ℤ pos 1) n)) (sym (one_on low z))
+  later n at low z y f g =
+      ap (λ (t : Bool). cond t (s32 code at) (offset_for (low +ℤ z) default (offsets_from code (at + 4) (low +ℤ pos 1) n))) (unequal (low +ℤ z) low (λ e. f (omega (arith, ints))))
+      ∙ ap (λ (key : ℤ). offset_for key default (offsets_from code (at + 4) (low +ℤ pos 1) n)) (omega (arith, ints))
 
   entry_of : (n at : ℕ) (low z : ℤ) → offset_for (low +ℤ z) default (offsets_from code at low n) ≡ entry code default at n z
   unfolding offsets_from entry
@@ -56,15 +49,12 @@ module _ (code : List ℕ) (default : ℤ) where
       ∙ rw (lt-ltb 0 (suc n) (omega arith))
   entry_of (suc n) at low (pos (suc i)) =
       let there : at + 4 + 4 * i ≡ at + 4 * suc i = omega arith in
-      later n at low (pos (suc i)) (λ e. omega (arith, ap nat_abs e))
+      later n at low (pos (suc i)) (pos i) (λ e. omega (arith, ints)) (omega (arith, ints))
       ∙ entry_of n (at + 4) (low +ℤ pos 1) (pos i)
       ∙ ap₂ (λ (t : Bool) (a : ℕ). cond t (s32 code a) default) (sym (leb-suc-suc (suc i) n)) there
-  entry_of (suc n) at low (negsuc i) = later n at low (negsuc i) (λ e. omega (arith, ap nat_abs e)) ∙ entry_of n (at + 4) (low +ℤ pos 1) (negsuc (suc i))
+  entry_of (suc n) at low (negsuc i) = later n at low (negsuc i) (negsuc (suc i)) (λ e. omega (arith, ints)) (omega (arith, ints)) ∙ entry_of n (at + 4) (low +ℤ pos 1) (negsuc (suc i))
 
 -- ---- words: i is how far the key is past the lowest, modulo 2 ^ 32
-
-unwrapped : (low key i m : ℕ) → key < 2 ^ 32 → i < 2 ^ 32 → key ≡ (i + low) % 2 ^ 32 → key ≡ m + low → m ≡ i
-unwrapped low key i m K I past e = omega arith
 
 module _ (low high key span i : ℕ) (L : low < 2 ^ 32) (H : high < 2 ^ 32) (K : key < 2 ^ 32) (S : span < 2 ^ 32) (I : i < 2 ^ 32)
     (spans : (span + low) % 2 ^ 32 ≡ high) (past : (i + low) % 2 ^ 32 ≡ key) (order : (signed 31 low ≤ᶻ signed 31 high) ≡ true)
@@ -74,7 +64,7 @@ module _ (low high key span i : ℕ) (L : low < 2 ^ 32) (H : high < 2 ^ 32) (K :
 
   found_is : found ≡ entry code default at (span + 1) (signed 31 key -ℤ signed 31 low)
   found_is =
-      ap (λ (k : ℤ). offset_for k default (offsets_from code at (signed 31 low) (span + 1))) (sym (+ℤ_comm (signed 31 low) (signed 31 key -ℤ signed 31 low) ∙ -ℤ-+ℤ_cancel (signed 31 key) (signed 31 low)))
+      ap (λ (k : ℤ). offset_for k default (offsets_from code at (signed 31 low) (span + 1))) (omega (arith, ints))
       ∙ entry_of code default (span + 1) at (signed 31 low) (signed 31 key -ℤ signed 31 low)
 
   own_entry : i ≤ span → found ≡ s32 code (at + 4 * i)
@@ -83,13 +73,11 @@ module _ (low high key span i : ℕ) (L : low < 2 ^ 32) (H : high < 2 ^ 32) (K :
 
   no_entry : span < i → found ≡ default
   unfolding entry
-  no_entry h = found_is ∙ outside (signed 31 key -ℤ signed 31 low) (word_difference 31 low key L K)
+  no_entry h = found_is ∙ outside (signed 31 key -ℤ signed 31 low) refl
     where
-      outside : (z : ℤ) → Difference z (raised 31 key + 2 ^ 31) (2 ^ 31 + raised 31 low) → entry code default at (span + 1) z ≡ default
-      outside (pos m) d =
-          let e = unwrapped (raised 31 low) (raised 31 key) i m (omega arith) I (raised_sum low key i past) (omega (arith, d)) in
-          rw (le-ltb m (span + 1) (omega (arith, e)))
-      outside (negsuc m) d = refl
+      outside : (z : ℤ) → signed 31 key -ℤ signed 31 low ≡ z → entry code default at (span + 1) z ≡ default
+      outside (pos m) e = rw (le-ltb m (span + 1) (omega (arith, ints, signed_difference 31 low L, signed_difference 31 key K)))
+      outside (negsuc m) e = refl
 
 -- ---- the words that were read, in order
 

@@ -1,29 +1,19 @@
 -- TABLESWITCH: how far a key is past the lowest, and how many keys there are, by the words that were read. Assumes nothing.
 use Rattle.std.proofs.Common.{◌≡◌, ℕ, ◌+◌, ◌%◌, ◌^◌, ◌<◌, ◌≤◌, Bool, true, List, ℤ, pos, ◌-ℤ◌, ap, ◌∙◌, ap₂, le_refl, arith}
+use borrow.Author.Differences.{ints}
 use Rattle.values.specs.Integers.{signed, ◌≤ᶻ◌}
 use Rattle.rules.specs.Fetch.{u32, aligned, low_key, high_key, keys}
-use Rattle.operands.proofs.Differences.{raised, same_difference, word_difference, word_order}
+use Rattle.operands.proofs.Differences.{raised, signed_difference}
 use Rattle.operands.proofs.Readings.{word_means}
 
 -- b is n past a modulo 2 ^ 32, and so are the two raised
 pub raised_sum : (a b n : ℕ) → (n + a) % 2 ^ 32 ≡ b → raised 31 b ≡ (n + raised 31 a) % 2 ^ 32
 raised_sum a b n e = omega arith
 
--- up to the highest nothing wraps
-no_wrap : (low high key span i : ℕ) → low ≤ high → high < 2 ^ 32 → span < 2 ^ 32 → high ≡ (span + low) % 2 ^ 32 → key ≡ (i + low) % 2 ^ 32 → i ≤ span → key ≡ i + low
-no_wrap low high key span i o H S spans past h =
-    let e : span + low ≡ high = omega arith in
-    omega arith
-
 module _ (low high key span i : ℕ) (L : low < 2 ^ 32) (H : high < 2 ^ 32) (K : key < 2 ^ 32) (S : span < 2 ^ 32)
     (spans : (span + low) % 2 ^ 32 ≡ high) (past : (i + low) % 2 ^ 32 ≡ key) (order : (signed 31 low ≤ᶻ signed 31 high) ≡ true) where
   pub distance : i ≤ span → signed 31 key -ℤ signed 31 low ≡ pos i
-  distance h =
-      let e = no_wrap (raised 31 low) (raised 31 high) (raised 31 key) span i (word_order 31 low high L H order) (omega arith) S (raised_sum low high span spans) (raised_sum low key i past) h in
-      same_difference (signed 31 key -ℤ signed 31 low) (pos i) (raised 31 key + 2 ^ 31) (2 ^ 31 + raised 31 low) i 0 (word_difference 31 low key L K) (omega arith) (apart (raised 31 key) (raised 31 low) e)
-    where
-      apart : (k l : ℕ) → k ≡ i + l → k + 2 ^ 31 + 0 ≡ i + (2 ^ 31 + l)
-      apart k l e = omega arith
+  distance h = omega (arith, ints, signed_difference 31 low L, signed_difference 31 high H, signed_difference 31 key K)
 
 module _ (code : List ℕ) (pc at low high : ℕ) (start : at ≡ aligned pc) (lowest : low ≡ u32 code (at + 4)) (highest : high ≡ u32 code (at + 8)) where
   pub low_key_lem : signed 31 low ≡ low_key code pc

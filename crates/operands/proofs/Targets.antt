@@ -1,9 +1,10 @@
 -- The target of a branch: the place that it names is worked out as 2 ^ 31 more. Assumes nothing.
-use Rattle.std.proofs.Common.{◌≡◌, ℕ, ◌+◌, ◌-◌, ◌^◌, ◌<◌, ◌≤◌, List, length, ℤ, pos, negsuc, ◌+ℤ◌, refl, ap, sym, arith}
+use Rattle.std.proofs.Common.{◌≡◌, ℕ, ◌+◌, ◌-◌, ◌^◌, ◌<◌, ◌≤◌, List, length, ℤ, pos, negsuc, ◌+ℤ◌, refl, sym, arith}
+use borrow.Author.Differences.{up, down, ints}
 use Rattle.values.specs.Integers.{signed}
 use Rattle.rules.specs.Step.{inside}
 use Rattle.rules.proofs.Step.{next_inside, next_outside}
-use Rattle.operands.proofs.Differences.{Difference, raised, signed_difference, sum_difference}
+use Rattle.operands.proofs.Differences.{raised, signed_difference}
 use Rattle.std.specs.Prelude.{Ok, Err}
 use Rattle.rules.specs.declared.refusals.Refusal.{Refusal}
 
@@ -22,19 +23,12 @@ module _ (code : List ℕ) (base offset : ℕ) (word : offset < 2 ^ 32) where
   abbrev sum : ℕ
   sum = base + raised 31 offset
 
-  place_difference : Difference place sum (2 ^ 31)
-  place_difference = sum_difference (pos base) (signed 31 offset) base 0 (raised 31 offset) (2 ^ 31) (omega arith) (signed_difference 31 offset word)
-
   pub before_the_code : sum < 2 ^ 31 → Err Refusal.Target ≡ inside code place
-  before_the_code h = go place place_difference
+  before_the_code h = go place (omega (arith, ints, signed_difference 31 offset word))
     where
-      go : (z : ℤ) → Difference z sum (2 ^ 31) → Err Refusal.Target ≡ inside code z
+      go : (z : ℤ) → up z + 2 ^ 31 ≡ down z + sum → Err Refusal.Target ≡ inside code z
       go (pos n) d = absurd (omega arith)
       go (negsuc n) d = refl
 
   pub from_the_start : 2 ^ 31 ≤ sum → pos (sum - 2 ^ 31) ≡ place
-  from_the_start h = go place place_difference
-    where
-      go : (z : ℤ) → Difference z sum (2 ^ 31) → pos (sum - 2 ^ 31) ≡ z
-      go (pos n) d = ap pos (omega arith)
-      go (negsuc n) d = absurd (omega arith)
+  from_the_start h = omega (arith, ints, signed_difference 31 offset word)
