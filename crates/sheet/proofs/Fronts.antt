@@ -1,24 +1,16 @@
 -- A list written from its front on, word by word. Assumes nothing.
 use Prim.Native.Nat.{ℕ, zero, suc, ◌+◌, ◌*◌, ◌<◌}
-use mathlib.Core.Path.{◌≡◌, sym, ap, subst, ◌∙◌}
+use mathlib.Core.Path.{◌≡◌, ap, ◌∙◌}
 use mathlib.Core.List.{List, [], ◌∷◌, ◌++◌, append_assoc}
 use native.Mathlib.Omega.{arith}
-use native.Mathlib.Numerals.{add-one}
 use lib.ListN.{length, drop, set, get_or}
-use lib.Seq.{drop-cons, set-append_seam}
+use Rattle.std.proofs.lemmas.List.{drop_more, set_at}
 use Rattle.rules.specs.Fetch.{u32}
 use Rattle.rules.specs.Sheet.{arguments_from}
 
 -- one more word after those that are written
-here : (xs t : List ℕ) (v : ℕ) → length xs < length t → set (xs ++ drop (length xs) t) (length xs) v ≡ (xs ++ (v ∷ [])) ++ drop (length xs + 1) t
-here xs t v h =
-    ap (λ (l : List ℕ). set (xs ++ l) (length xs) v) (drop-cons t (length xs) 0 h)
-    ∙ set-append_seam xs (get_or t (length xs) 0) (drop (suc (length xs)) t) v
-    ∙ ap (λ (k : ℕ). xs ++ v ∷ drop k t) (sym (add-one (length xs)))
-    ∙ sym (append_assoc xs (v ∷ []) (drop (length xs + 1) t))
-
 pub front_set : (xs t : List ℕ) (i v : ℕ) → length xs ≡ i → i < length t → set (xs ++ drop i t) i v ≡ (xs ++ (v ∷ [])) ++ drop (i + 1) t
-front_set xs t i v e h = subst (λ (k : ℕ). k < length t → set (xs ++ drop k t) k v ≡ (xs ++ (v ∷ [])) ++ drop (k + 1) t) e (here xs t v) h
+front_set xs t i v e h = rw (drop_more t i 0 h, set_at xs (get_or t i 0) (drop (i + 1) t) v i e, append_assoc)
 
 module _ (sheet : List ℕ) where
   pub one_more_argument : (at n : ℕ) → arguments_from sheet at n ++ (u32 sheet (at + 4 * n) ∷ []) ≡ arguments_from sheet at (n + 1)
