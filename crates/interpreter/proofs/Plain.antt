@@ -7,6 +7,7 @@ use native.Mathlib.Omega.{arith}
 use lib.Dec.{leb, eqb}
 use lib.IntN.{ℤ, pos}
 use lib.ListN.{length}
+use Rattle.std.proofs.lemmas.List.{nil_from_length}
 use Rattle.values.specs.declared.Value.{Value}
 use Rattle.values.specs.Kinds.{places_of}
 use Rattle.rules.specs.declared.states.State.{State}
@@ -36,13 +37,9 @@ pub plain_framed : (l : Method) (s : State) (n : ℕ) → frame_check l s n ≡ 
 unfolding frame_check
 plain_framed l s n f = f
 
-no_handlers : (handlers : List ℕ) → length handlers ≡ 0 → handlers ≡ []
-no_handlers [] e = refl
-no_handlers (h ∷ hs) e = absurd (omega arith)
-
 -- and a method that has none is the same without them
 pub without_handlers : (l : Method) → length l.handlers ≡ 0 → (most n : ℕ) (s : State) (slots : List ℕ) → advance_from (plain l) (most - n) n s slots ≡ advance_from l (most - n) n s slots
-without_handlers l e most n s slots = ap (λ (h : List ℕ). advance_from (method l.code l.kinds l.words h) (most - n) n s slots) (sym (no_handlers l.handlers e))
+without_handlers l e most n s slots = ap (λ (h : List ℕ). advance_from (method l.code l.kinds l.words h) (most - n) n s slots) (sym (nil_from_length l.handlers e))
 
 -- ---- one decision
 
