@@ -7,8 +7,8 @@ use Rattle.const_pool.proofs.load_constant.Goals.{then-method-at-via-then-method
 pub returns-then-method-at : goal.returns-then-method-at
 returns-then-method-at c = let m = c.args.method.now in
     elim c.then-method-at.branch [
-      then-method-at-via-then-method-at w ↦ no_entry m.kinds.now m.words.now c.args.index c.args.width (rw (sym c.places.ensures) (w.if-method-at.true))
-    | then-method-at-via-else-method-at+then-not-has w ↦ no_kind m.kinds.now m.words.now c.args.index c.args.width (sym w.has.ensures ∙ w.if-not-has.true)
+      | then-method-at-via-then-method-at w ↦ no_entry m.kinds.now m.words.now c.args.index c.args.width (rw (sym c.places.ensures) (w.if-method-at.true))
+      | then-method-at-via-else-method-at+then-not-has w ↦ no_kind m.kinds.now m.words.now c.args.index c.args.width (sym w.has.ensures ∙ w.if-not-has.true)
     ]
 
 pub returns-in-One : goal.returns-in-One
