@@ -18,9 +18,6 @@ pub returns-in-Ints : goal.returns-in-Ints
 returns-in-Ints c = let x = c.args in
     c.integer_effect.ensures ∙ ap (λ f. effect_of (result_of int f x.a x.b x.b)) c.operation_of.ensures ∙ sym (int_row x.op x.constant x.a x.b x.c x.d (grind (arith, common_steps)))
 
-pub operation_of-requires-in-Longs : goal.operation_of-requires-in-Longs
-operation_of-requires-in-Longs c = before c.args.op (grind (arith, common_steps))
-
 pub returns-in-Longs : goal.returns-in-Longs
 returns-in-Longs c = let x = c.args in
     rw (c.join_words-x.ensures, c.join_words-y.ensures, c.operation_of-in-Longs.ensures) at c.integer_effect-in-Longs.ensures ∙ sym (long_row x.op x.constant x.a x.b x.c x.d (grind (arith, common_steps)))

@@ -15,11 +15,6 @@ pub returns-then-op-eq-WIDE : goal.returns-then-op-eq-WIDE
 unfolding effect_at row_of
 returns-then-op-eq-WIDE c constant c' d' = rw c.if-op-eq-WIDE.true c.nothing.ensures
 
-pub return_effect-requires : goal.return_effect-requires
-unfolding shared_opcodes
-return_effect-requires c = let n = c.args.op in
-    of_family is_return 256 return_opcodes refl n (omega arith) (sym c.is_return.ensures ∙ c.if-is_return.true) c.requires.op_value
-
 abbrev is_branch : ℕ → Bool
 is_branch n = leb 153 n && not (eqb n 196) && not (is_return n)
 

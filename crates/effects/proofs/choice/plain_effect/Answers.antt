@@ -9,19 +9,6 @@ pub constant_effect-requires : goal.constant_effect-requires
 unfolding shared_opcodes
 constant_effect-requires c = from 0 18 constant_opcodes refl c.args.op (omega arith) (omega arith) c.requires.op_value
 
-pub returns-then-op-lt-LDC : goal.returns-then-op-lt-LDC
-returns-then-op-lt-LDC c = let x = c.args in c.constant_effect.ensures x.a x.b x.c x.d
-
 pub move_effect-requires : goal.move_effect-requires
 unfolding shared_opcodes
 move_effect-requires c = from 18 87 move_opcodes refl c.args.op (omega arith) (omega arith) c.requires.op_value
-
-pub returns-then-op-lt-POP : goal.returns-then-op-lt-POP
-returns-then-op-lt-POP c = let x = c.args in c.move_effect.ensures x.constant x.c x.d
-
-pub stack_effect-requires : goal.stack_effect-requires
-unfolding shared_opcodes
-stack_effect-requires c = from 87 96 stack_opcodes refl c.args.op (omega arith) (omega arith) c.requires.op_value
-
-pub returns : goal.returns
-returns c = c.stack_effect.ensures c.args.constant

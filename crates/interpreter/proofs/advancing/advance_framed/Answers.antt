@@ -35,9 +35,6 @@ module _ (l : Method) (slots₀ : List ℕ) (most : ℕ) (s₀ : State) (slots :
     decides decided decision q h =
         ap (settled r.state.return_type) h ∙ caught_settled l r.state decided ∙ ap (caught l r.state) (sym q ∙ led.decides) ∙ sym (decide_caught l r.state r.slots)
 
-pub advance_plain-requires : goal.advance_plain-requires
-advance_plain-requires c = let p = c.requires in record { slots_value = plain_framed _ _ _ p; taken_le_most = omega arith }
-
 pub returns-then-method-eq0 : goal.returns-then-method-eq0
 returns-then-method-eq0 c = let a = c.args in
     let l = lent a.method.now in
@@ -45,9 +42,6 @@ returns-then-method-eq0 c = let a = c.args in
     let r = c.advance_plain.result in
     let e = c.advance_plain.ensures in
     record { slots_after = e ∙ without_handlers l c.if-method-eq0.true a.most 0 a.s a.slots.now ∙ rw (sub-zero a.most); steps_le_most = omega (arith, p.upto, ap (λ (x : Reached). x.steps) e) }
-
-pub loop-u-init : goal.loop-u-init
-loop-u-init c = let p = c.requires in record { upto = omega arith; long = refl; framed = p; rest = refl }
 
 pub advance_plain-plain-requires : goal.advance_plain-plain-requires
 advance_plain-plain-requires c = let t = c.loop-u in record { slots_value = plain_framed _ _ _ t.invariant.framed; taken_le_most = t.invariant.upto }

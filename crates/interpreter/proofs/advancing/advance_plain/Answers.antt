@@ -6,12 +6,6 @@ use Rattle.return_types.specs.Settled.{settled}
 use Rattle.interpreter.proofs.Steps.{turn, ends_there, all_taken}
 use Rattle.interpreter.proofs.advancing.advance_plain.Goals as goal
 
-pub loop-u-init : goal.loop-u-init
-loop-u-init c = let p = c.requires in record { upto = p.taken_le_most; long = refl; framed = p.slots_value; rest = refl }
-
-pub decide_framed-decision-requires : goal.decide_framed-decision-requires
-decide_framed-decision-requires c = c.loop-u.invariant.framed
-
 pub returns-in_default : goal.returns-in_default
 returns-in_default c = let t = c.loop-u in
     ends_there _ _ _ _ _ t.slots t.t t.steps t.invariant c.decide_framed-decision.result c.decide_framed-decision.ensures (_, c.in_default.is)
@@ -24,13 +18,6 @@ pub take-t-requires : goal.take-t-requires
 take-t-requires c = let t = c.loop-u in
     let k = ordinary_legal _ t.t t.slots _ (sym c.decide_framed-decision.ensures ∙ ap (settled _) c.in-Ok.is) in
     (k.few, k.within, k.frame_there.room)
-
-pub overflow_add-steps : goal.overflow_add-steps
-overflow_add-steps c = let t = c.loop-u in
-    omega (arith, t.invariant.upto, c.if-steps-most.false, c.ranges.most)
-
-pub loop-u-smaller : goal.loop-u-smaller
-loop-u-smaller c = omega (arith, c.loop-u.invariant.upto, c.if-steps-most.false)
 
 pub loop-u-preserved : goal.loop-u-preserved
 loop-u-preserved c = let t = c.loop-u in

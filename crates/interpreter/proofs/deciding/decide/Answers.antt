@@ -8,9 +8,6 @@ use Rattle.interpreter.proofs.Plain.{plain_framed, caught_settled, decide_caught
 use Rattle.interpreter.proofs.Answers.{by_frame}
 use Rattle.interpreter.proofs.deciding.decide.Goals as goal
 
-pub decide_framed-decision-requires : goal.decide_framed-decision-requires
-decide_framed-decision-requires c = plain_framed (lent c.args.method.now) _ _ (sym (c.check_frame.ensures _) ∙ c.in_ok-check_frame.was)
-
 pub returns-in_err-check_frame : goal.returns-in_err-check_frame
 returns-in_err-check_frame c = let p = err_from_is_err_and c.from_residual.result c.from_residual.ensures.1 in
     rw (p.1, p.2) (sym (by_frame (lent c.args.method.now) c.args.s c.args.slots.now _ (sym (c.check_frame.ensures _) ∙ c.in_err-check_frame.was)))

@@ -4,9 +4,6 @@ use Rattle.rules.specs.Lent.{lent}
 use Rattle.interpreter.proofs.Taken.{accounted, refused_run, passed_run}
 use Rattle.interpreter.proofs.running.run.Goals as goal
 
-pub run_framed-requires : goal.run_framed-requires
-run_framed-requires c = (sym (c.check_frame-asked.ensures _) ∙ c.in-Ok.is)
-
 pub returns-in-Err : goal.returns-in-Err
 returns-in-Err c = let a = c.args in
     let l = lent a.method.now in

@@ -25,9 +25,6 @@ take-state-requires c = let a = c.args in
     let k = legal_last l a.budget a.s a.slots.now c.if-budget-eq0.false _ c.advance_framed-reached.ensures.slots_after _ (ap (settled _) c.in-Ok.is) in
     (k.few, k.within, k.frame_there.room)
 
-pub overflow_add-result : goal.overflow_add-result
-overflow_add-result c = omega (arith, c.advance_framed-reached.ensures.steps_le_most, c.if-budget-eq0.false, c.ranges.budget)
-
 pub returns : goal.returns
 returns c = let a = c.args in
     let l = lent a.method.now in

@@ -4,9 +4,6 @@ use Rattle.workbook.proofs.LoadedWords.{load_unread}
 use Rattle.workbook.proofs.Demand3.{load_promised}
 use Rattle.workbook.proofs.loads.workbook_load.Goals as goal
 
-pub load_lent-requires : goal.load_lent-requires
-load_lent-requires c = (sym c.check_sheet-checked.ensures ∙ c.in-Ok.is)
-
 pub returns-in-Err : goal.returns-in-Err
 returns-in-Err c = let a = c.args in
     let k = load_promised a.sheet.now a.slots.now a.kinds.now a.words.now a.state.now a.answer.now (λ i. (c.shared_slice_known-1.given i).fits) _
