@@ -31,7 +31,8 @@ fn advance_plain(method: &Method, slots: &mut [u32], s: State, taken: u64, most:
     let own = *method;
     let mut t = s;
     let mut steps = taken;
-    // the two ends stand apart here and below: joined in one arm, with the last step in the guard of the other, a step took 159.3 machine instructions and not 156.5
+    // two ends, each with a value of its own: made once before both, a step took 126.9 machine instructions and not 124.8, and joined in one arm, with the last step
+    // in its guard, 159.3 and not 156.5
     loop {
         let decision = decide_framed(&own, slots, t);
         let Ok(u) = decision else {
@@ -67,26 +68,18 @@ pub(crate) fn advance_framed(method: &Method, slots: &mut [u32], s: State, most:
     let mut steps: u64 = 0;
     loop {
         let plain = advance_plain(method, slots, t, steps, most);
-        let decided = plain.decision;
-        t = plain.state;
-        steps = plain.steps;
-        let decision = ask_handlers(method, t, decided);
-        let Ok(u) = decision else {
-            return Reached {
-                state: t,
-                steps,
-                decision,
-            };
+        let reached = Reached {
+            decision: ask_handlers(method, plain.state, plain.decision),
+            ..plain
         };
-        if steps == most {
-            return Reached {
-                state: t,
-                steps,
-                decision,
-            };
+        let Ok(u) = reached.decision else {
+            return reached;
+        };
+        if reached.steps == most {
+            return reached;
         }
-        t = take(slots, t, u);
-        steps += 1;
+        t = take(slots, reached.state, u);
+        steps = reached.steps + 1;
     }
 }
 

@@ -1,5 +1,6 @@
 // One step, taken: decided, and then written in one place.
-ghost use Rattle.std.specs.Prelude.{◌≡◌, ◌+◌, ◌≤◌, length};
+ghost use Rattle.std.specs.Prelude.{◌≡◌};
+ghost use Rattle.frame.specs.Writable.{Writable};
 ghost use Rattle.rules.specs.Lent.{lent};
 ghost use Rattle.rules.specs.Step.{core_machine, moved, step_of, written};
 ghost use Rattle.interpreter.specs.Taken.{stepped};
@@ -30,7 +31,7 @@ pub fn moved(s: State, pc: u32, depth: u32, count: u64) -> State
 
 // An ordinary step, taken: its words are written, and the count is 0.
 pub(crate) fn take(slots: &mut [u32], s: State, u: Update) -> State
-    requires { (u.many ≤ 6) × (u.first + u.many ≤ s.max_locals + s.max_stack) × (s.max_locals + s.max_stack ≤ length slots.old) }
+    requires { Writable u s slots.old }
     ensures state_after { result ≡ moved s u.pc u.depth 0 }
     ensures slots_after { slots.new ≡ written u slots.old }
 {

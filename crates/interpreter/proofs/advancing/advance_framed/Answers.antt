@@ -54,23 +54,23 @@ returns-in_default c =
     let p = c.advance_plain-plain in
     let r = reached p.result p.new.slots in
     let g = going l a.slots.now a.most a.s t.slots t.t t.steps t.invariant r p.ensures in
-    let d = decides l a.slots.now a.most a.s t.slots t.t t.steps t.invariant r p.ensures p.result.decision c.ask_handlers-decision.result refl c.ask_handlers-decision.ensures in
+    let d = decides l a.slots.now a.most a.s t.slots t.t t.steps t.invariant r p.ensures p.result.decision c.ask_handlers.result refl c.ask_handlers.ensures in
     record {
-      slots_after = ends_there _ _ _ _ _ r.slots r.state r.steps g c.ask_handlers-decision.result d (_, c.in_default.is) ∙ rw (sub-zero a.most);
+      slots_after = ends_there _ _ _ _ _ r.slots r.state r.steps g c.ask_handlers.result d (_, c.in_default.is) ∙ rw (sub-zero a.most);
       steps_le_most = g.upto;
     }
 
-pub returns-then-steps-most : goal.returns-then-steps-most
-returns-then-steps-most c =
+pub returns-then-reached-most : goal.returns-then-reached-most
+returns-then-reached-most c =
     let a = c.args in
     let l = lent a.method.now in
     let t = c.loop-u in
     let p = c.advance_plain-plain in
     let r = reached p.result p.new.slots in
     let g = going l a.slots.now a.most a.s t.slots t.t t.steps t.invariant r p.ensures in
-    let d = decides l a.slots.now a.most a.s t.slots t.t t.steps t.invariant r p.ensures p.result.decision c.ask_handlers-decision.result refl c.ask_handlers-decision.ensures in
+    let d = decides l a.slots.now a.most a.s t.slots t.t t.steps t.invariant r p.ensures p.result.decision c.ask_handlers.result refl c.ask_handlers.ensures in
     record {
-      slots_after = all_taken _ _ _ _ _ r.slots r.state r.steps g c.if-steps-most.true _ (sym d ∙ ap (settled _) c.in-Ok.is) ∙ rw (sub-zero a.most);
+      slots_after = all_taken _ _ _ _ _ r.slots r.state r.steps g c.if-reached-most.true _ (sym d) ∙ rw (sub-zero a.most);
       steps_le_most = g.upto;
     }
 
@@ -82,7 +82,7 @@ take-t-requires c =
     let p = c.advance_plain-plain in
     let r = reached p.result p.new.slots in
     let g = going l a.slots.now a.most a.s t.slots t.t t.steps t.invariant r p.ensures in
-    let d = decides l a.slots.now a.most a.s t.slots t.t t.steps t.invariant r p.ensures p.result.decision c.ask_handlers-decision.result refl c.ask_handlers-decision.ensures in
+    let d = decides l a.slots.now a.most a.s t.slots t.t t.steps t.invariant r p.ensures p.result.decision c.ask_handlers.result refl c.ask_handlers.ensures in
     let k = ordinary_legal _ r.state r.slots _ (sym d ∙ ap (settled _) c.in-Ok.is) in
     (k.few, k.within, k.frame_there.room)
 
@@ -94,7 +94,7 @@ overflow_add-steps c =
     let p = c.advance_plain-plain in
     let r = reached p.result p.new.slots in
     let g = going l a.slots.now a.most a.s t.slots t.t t.steps t.invariant r p.ensures in
-    omega (arith, g.upto, c.if-steps-most.false, c.ranges.most)
+    omega (arith, g.upto, c.if-reached-most.false, c.ranges.most)
 
 pub loop-u-smaller : goal.loop-u-smaller
 loop-u-smaller c =
@@ -104,7 +104,7 @@ loop-u-smaller c =
     let p = c.advance_plain-plain in
     let r = reached p.result p.new.slots in
     let g = going l a.slots.now a.most a.s t.slots t.t t.steps t.invariant r p.ensures in
-    omega (arith, g.upto, c.if-steps-most.false, from l a.slots.now a.most a.s t.slots t.t t.steps t.invariant r p.ensures)
+    omega (arith, g.upto, c.if-reached-most.false, from l a.slots.now a.most a.s t.slots t.t t.steps t.invariant r p.ensures)
 
 pub loop-u-preserved : goal.loop-u-preserved
 loop-u-preserved c =
@@ -114,5 +114,5 @@ loop-u-preserved c =
     let p = c.advance_plain-plain in
     let r = reached p.result p.new.slots in
     let g = going l a.slots.now a.most a.s t.slots t.t t.steps t.invariant r p.ensures in
-    let d = decides l a.slots.now a.most a.s t.slots t.t t.steps t.invariant r p.ensures p.result.decision c.ask_handlers-decision.result refl c.ask_handlers-decision.ensures in
-    rw (c.take-t.ensures.state_after, c.take-t.ensures.slots_after) (turn _ _ _ _ _ r.slots r.state r.steps g c.if-steps-most.false _ (sym d ∙ ap (settled _) c.in-Ok.is))
+    let d = decides l a.slots.now a.most a.s t.slots t.t t.steps t.invariant r p.ensures p.result.decision c.ask_handlers.result refl c.ask_handlers.ensures in
+    rw (c.take-t.ensures.state_after, c.take-t.ensures.slots_after) (turn _ _ _ _ _ r.slots r.state r.steps g c.if-reached-most.false _ (sym d ∙ ap (settled _) c.in-Ok.is))
