@@ -40,16 +40,13 @@ fn four_at(slots: &[u32], place: u32) -> Four
 fn from_pool(asked: Result<Constant, Refusal>) -> Result<Four, Refusal>
     ensures { result ≡ from_pool asked }
 {
-    // no `?`: it moves the constant as a whole, for which a step takes 148 machine instructions and not 141 (docs/PERFORMANCE)
-    match asked {
-        Ok(Constant { low, high }) => Ok(Four {
-            a: low,
-            b: high,
-            c: 0,
-            d: 0,
-        }),
-        Err(refusal) => Err(refusal),
-    }
+    let constant = asked?;
+    Ok(Four {
+        a: constant.low,
+        b: constant.high,
+        c: 0,
+        d: 0,
+    })
 }
 
 // Whether a shared opcode reads its local: the loads and IINC.
