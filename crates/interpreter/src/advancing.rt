@@ -22,6 +22,8 @@ pub struct Reached {
 }
 
 // Steps of a method as if it had no handlers, up to a number of which some are taken already, where questions 1 to 3 have passed. They stay passed, and are asked no more.
+// That they have passed stands in four contracts of this crate and in no type: it is a fact of a method, a state and the slots' length together, and a struct of the three would
+// hold the slots as `&mut` and promise, field by field, in each contract, that it still holds the same.
 fn advance_plain(method: &Method, slots: &mut [u32], s: State, taken: u64, most: u64) -> Reached
     requires slots_value { frame_check (plain (lent method.now)) s (length slots.old) ≡ Ok tt }
     requires taken_le_most { taken ≤ most }

@@ -7,7 +7,7 @@ use Rattle.rules.specs.Instructions.{row_of}
 use Rattle.effects.specs.Effects.{effect_of, effect_at}
 use Rattle.effects.specs.Operations.{result_of}
 use Rattle.effects.proofs.Floats.{of_floats, of_doubles}
-use Rattle.effects.proofs.Operations.{before, int_row, long_row}
+use Rattle.effects.proofs.Operations.{int_row, long_row}
 use Rattle.effects.proofs.choice.arithmetic_effect.Goals as goal
 
 pub returns-then-op-eq-IINC : goal.returns-then-op-eq-IINC

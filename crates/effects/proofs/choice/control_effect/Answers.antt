@@ -7,7 +7,7 @@ use lib.Dec.{leb, eqb}
 use borrow.Author.Tests.{le-leb, ne_eqb}
 use Rattle.rules.specs.Instructions.{row_of}
 use Rattle.effects.specs.Effects.{effect_at}
-use Rattle.effects.specs.Families.{shared_opcodes, branch_opcodes, return_opcodes, is_return}
+use Rattle.effects.specs.Families.{shared_opcodes, branch_opcodes, is_return}
 use Rattle.effects.proofs.Families.{of_family}
 use Rattle.effects.proofs.choice.control_effect.Goals as goal
 

@@ -1,7 +1,7 @@
 -- `plain_effect` meets its contract. Assumes nothing.
 use mathlib.Core.Path.{refl}
 use native.Mathlib.Omega.{arith}
-use Rattle.effects.specs.Families.{shared_opcodes, constant_opcodes, move_opcodes, stack_opcodes}
+use Rattle.effects.specs.Families.{shared_opcodes, constant_opcodes, move_opcodes}
 use Rattle.effects.proofs.Families.{from}
 use Rattle.effects.proofs.choice.plain_effect.Goals as goal
 

@@ -1,11 +1,8 @@
 -- `advance` meets its contract: where questions 1 to 3 refuse, the rules' decision is that refusal. Assumes nothing.
 use mathlib.Core.Path.{refl, sym, ◌∙◌}
-use native.Mathlib.Omega.{arith}
-use native.Mathlib.Nat.{sub-zero}
 use Rattle.rules.specs.Lent.{lent}
 use Rattle.interpreter.proofs.Answers.{by_frame}
 use Rattle.interpreter.proofs.Steps.{advance_other}
-use Rattle.interpreter.proofs.Plain.{plain_framed, without_handlers}
 use Rattle.interpreter.proofs.advancing.advance.Goals as goal
 
 pub returns-in-Err : goal.returns-in-Err

@@ -1,6 +1,5 @@
 -- `advance_plain` meets its contract. The loop's invariant is `Going`; the measure is how many steps are left. Assumes nothing.
-use mathlib.Core.Path.{refl, sym, ap, ◌∙◌}
-use native.Mathlib.Omega.{arith}
+use mathlib.Core.Path.{sym, ap, ◌∙◌}
 use Rattle.rules.proofs.Legal.{ordinary_legal}
 use Rattle.return_types.specs.Settled.{settled}
 use Rattle.interpreter.proofs.Steps.{turn, ends_there, all_taken}

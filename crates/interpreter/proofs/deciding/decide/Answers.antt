@@ -4,7 +4,7 @@ use Rattle.std.proofs.lemmas.Result.{err_from_is_err_and}
 use Rattle.rules.specs.Lent.{lent}
 use Rattle.return_types.specs.Settled.{settled}
 use Rattle.interpreter.specs.Stages.{caught}
-use Rattle.interpreter.proofs.Plain.{plain_framed, caught_settled, decide_caught}
+use Rattle.interpreter.proofs.Plain.{caught_settled, decide_caught}
 use Rattle.interpreter.proofs.Answers.{by_frame}
 use Rattle.interpreter.proofs.deciding.decide.Goals as goal
 

@@ -1,5 +1,4 @@
 -- `ordinary_to` meets its contract. Assumes nothing.
-use Rattle.std.proofs.Common.{arith}
 use Rattle.std.proofs.lemmas.Result.{err_from_is_err_and}
 use Rattle.interpreter.specs.Stages.{ordinary_to}
 use Rattle.interpreter.proofs.finishing.ordinary_to.Goals as goal

@@ -1,6 +1,5 @@
 -- `run_framed` meets its contract. Assumes nothing.
 use mathlib.Core.Path.{ap}
-use native.Mathlib.Omega.{arith}
 use Rattle.rules.specs.Lent.{lent}
 use Rattle.return_types.specs.Settled.{settled}
 use Rattle.interpreter.proofs.Steps.{settled_other}
