@@ -2,8 +2,8 @@
 ghost use Rattle.std.specs.Prelude.{◌≡◌, ◌<◌};
 ghost use Rattle.rules.specs.Fetch.{fetched, widens, wide_check};
 ghost use Rattle.rules.specs.Forms.{Row};
-ghost use Rattle.instructions.specs.Decode.{decoded};
-ghost use Rattle.instructions.specs.Stages.{core_of, sized_of, fixed_of, switch_decoded, decoded_by};
+ghost use Rattle.instructions.specs.Decode.{instruction_by, decoded};
+ghost use Rattle.instructions.specs.Stages.{core_of, sized_of, fixed_of, decoded_by};
 
 use crate::forms::{Entry, Format};
 use crate::opcodes::*;
@@ -66,12 +66,7 @@ fn fixed(code: &[u8], pc: u32, entry: Entry, index: u32, constant: u32) -> Resul
 fn is_widened(opcode: u8) -> bool
     ensures { result ≡ widens opcode }
 {
-    match opcode {
-        ILOAD..=ALOAD => true,
-        ISTORE..=ASTORE => true,
-        IINC => true,
-        _ => false,
-    }
+    matches!(opcode, ILOAD..=ALOAD | ISTORE..=ASTORE | IINC)
 }
 
 // WIDE: an instruction with its operands at twice the size.
@@ -95,16 +90,15 @@ fn wide(code: &[u8], pc: u32) -> Result<Decoded, Refusal>
 }
 
 // An accepted switch as an instruction.
-fn switched(entry: Entry, asked: Result<Switch, Refusal>) -> Result<Decoded, Refusal>
-    ensures { result ≡ switch_decoded entry asked }
+fn switched(entry: Entry, switch: Switch) -> Decoded
+    ensures { result ≡ instruction_by entry switch.size 0 switch.default }
 {
-    let switch = asked?;
-    Ok(Decoded {
+    Decoded {
         entry,
         size: switch.size,
         index: 0,
         constant: switch.default,
-    })
+    }
 }
 
 // The instruction at an offset, by its entry.
@@ -124,8 +118,8 @@ fn by_entry(code: &[u8], pc: u32, entry: Entry) -> Result<Decoded, Refusal>
             fixed(code, pc, entry, index, read_code_i8(code, at + 1))
         }
         Format::Branch4 => fixed(code, pc, entry, 0, read_code_u32(code, at)),
-        Format::Table => switched(entry, table_switch(code, pc)),
-        Format::Pairs => switched(entry, lookup_switch(code, pc)),
+        Format::Table => Ok(switched(entry, table_switch(code, pc)?)),
+        Format::Pairs => Ok(switched(entry, lookup_switch(code, pc)?)),
         Format::Widened => wide(code, pc),
     }
 }

@@ -24,16 +24,11 @@ impl Format {
         ensures { result ≡ length_in self }
     {
         match self {
-            Format::Alone => 1,
-            Format::Implied(_) => 1,
-            Format::Byte => 2,
-            Format::Short => 3,
-            Format::Index => 2,
-            Format::Index2 => 3,
-            Format::IndexConst => 3,
+            Format::Alone | Format::Implied(_) => 1,
+            Format::Byte | Format::Index => 2,
+            Format::Short | Format::Index2 | Format::IndexConst => 3,
             Format::Branch4 => 5,
-            Format::Table => 0,
-            Format::Pairs => 0,
+            Format::Table | Format::Pairs => 0,
             Format::Widened => 254,
         }
     }
