@@ -11,14 +11,23 @@ use rules::tags::CONSTANT_CLASS;
 // The bytes of an entry: an EX record of the sheet, whose mark and length are not looked at (JVMS 4.7.3).
 const ENTRY: usize = 12;
 
+// Where its four fields lie. The crate sheet has the same names: it lies beside this one, and each reads the record by itself.
+const START_PC: usize = 4;
+
+const END_PC: usize = 6;
+
+const HANDLER_PC: usize = 8;
+
+const CATCH_TYPE: usize = 10;
+
 type Entry = [u8; ENTRY];
 
 // Whether the range of an entry has a place in the code; its end is excluded.
 fn is_covered(entry: &Entry, pc: u32) -> bool
     ensures { result ≡ covers entry.now 0 pc }
 {
-    let start = u32::from(read_code_u16(entry, 4));
-    let end = u32::from(read_code_u16(entry, 6));
+    let start = u32::from(read_code_u16(entry, START_PC));
+    let end = u32::from(read_code_u16(entry, END_PC));
     start <= pc && pc < end
 }
 
@@ -36,7 +45,7 @@ fn is_taken(method: &Method, catch_type: u16) -> bool
 fn is_caught(method: &Method, entry: &Entry, pc: u32) -> bool
     ensures { result ≡ catches method.now.kinds.now method.now.words.now entry.now 0 pc }
 {
-    is_covered(entry, pc) && is_taken(method, read_code_u16(entry, 10))
+    is_covered(entry, pc) && is_taken(method, read_code_u16(entry, CATCH_TYPE))
 }
 
 // Where the handler begins of the first whole entry that catches what is thrown at a place in the code.
@@ -47,5 +56,5 @@ pub fn find_handler(method: &Method, pc: u32) -> Option<u16>
     entries
         .iter()
         .find(|entry| is_caught(method, entry, pc))
-        .map(|entry| read_code_u16(entry, 8))
+        .map(|entry| read_code_u16(entry, HANDLER_PC))
 }
