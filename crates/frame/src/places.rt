@@ -16,10 +16,7 @@ pub struct Placed {
 fn local_there(places: u32, index: u32, limit: u16) -> bool
     ensures { result ≡ local_there places index limit }
 {
-    if places == 0 {
-        return true;
-    }
-    u64::from(index) + u64::from(places) <= u64::from(limit)
+    places == 0 || u64::from(index) + u64::from(places) <= u64::from(limit)
 }
 
 // Questions 6 to 8 for an instruction with its index.

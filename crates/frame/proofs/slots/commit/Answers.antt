@@ -12,5 +12,5 @@ returns c = let a = c.args in
     let l = c.from-locals.result in
     let place : l + (a.u.first - l) ≡ a.u.first = omega arith in
     rw c.write_update-2.ensures
-    (paste_part a.slots.now l (l + c.from.result) (a.u.first - l) a.u.many (update_words a.u) (omega arith) (omega arith)
+    (paste_part a.slots.now l c.frame_size.result (a.u.first - l) a.u.many (update_words a.u) (omega arith) (omega arith)
     ∙ ap (λ (at : ℕ). paste a.slots.now at (update_words a.u) a.u.many) place)
