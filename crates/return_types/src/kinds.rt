@@ -24,8 +24,8 @@ pub(crate) enum ReturnType {
 }
 
 impl ReturnType {
-    #[tactic(auto, unfolding(rules::specs::Returns::is_return_type))]
     // The return type of a word of a state, if it is one: the state is lent by C, and any word may stand there.
+    #[tactic(auto, unfolding(rules::specs::Returns::is_return_type))]
     pub(crate) fn from_word(word: u32) -> Option<ReturnType>
         ensures { MatchOption result (is_return_type word ≡ false) (λ t. word ≡ letter t) }
     {
@@ -72,8 +72,8 @@ impl ReturnType {
         }
     }
 
-    #[tactic(auto, unfolding(rules::specs::Returns::narrowed))]
     // What is kept of an int.
+    #[tactic(auto, unfolding(rules::specs::Returns::narrowed))]
     fn narrow(self, a: u32) -> u32
         ensures { result ≡ narrowed (letter self) a }
     {
