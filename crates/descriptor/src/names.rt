@@ -85,7 +85,7 @@ impl<'a> Cursor<'a> {
         })
     }
 
-    // After the class name and its semicolon that begin here, if they do.
+    // After the class name and its semicolon that begin here, if they do. The pieces differ in length, so that a `for` over them would be no plainer.
     pub(crate) fn class_name(self) -> Option<Cursor<'a>>
         ensures { EndsAt self.entry.descriptor.now (name_end (length self.entry.descriptor.now) self.entry.descriptor.now self.entry.at) result }
     {

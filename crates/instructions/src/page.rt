@@ -5,7 +5,7 @@ ghost use Rattle.rules.specs.OpcodePage.{line_of};
 use crate::table::entry;
 use rules::OpcodeLine;
 
-// The length that marks an opcode outside the core.
+// The length that marks an opcode outside the core: a number, since the page prints it (a rule of the project).
 const OUTSIDE: u32 = 255;
 
 // The line of an opcode, from the entry that a step reads.
