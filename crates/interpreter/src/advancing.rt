@@ -63,7 +63,7 @@ pub(crate) fn advance_framed(method: &Method, slots: &mut [u32], s: State, most:
     ensures slots_after { reached result slots.new ≡ advance_from (lent method.now) most 0 s slots.old }
     ensures steps_le_most { result.steps ≤ most }
 {
-    if method.handlers.len() == 0 {
+    if method.handlers.is_empty() {
         return advance_plain(method, slots, s, 0, most);
     }
     let mut t = s;
@@ -97,7 +97,7 @@ pub fn advance(method: &Method, slots: &mut [u32], s: State, most: u64) -> Reach
             decision: Err(Halt::Refused(refusal)),
         },
         Ok(()) => {
-            if method.handlers.len() == 0 {
+            if method.handlers.is_empty() {
                 return advance_plain(method, slots, s, 0, most);
             }
             advance_framed(method, slots, s, most)

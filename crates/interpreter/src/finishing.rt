@@ -31,7 +31,7 @@ pub(crate) struct Located {
 fn is_store(op: u8) -> bool
     ensures { result ≡ stores_to op }
 {
-    op == ISTORE || op == LSTORE || op == IINC
+    matches!(op, ISTORE | LSTORE | IINC)
 }
 
 // An instruction that is decoded and placed, with the offset after it.

@@ -53,7 +53,7 @@ fn from_pool(asked: Result<Constant, Refusal>) -> Result<Four, Refusal>
 fn reads_local(op: u8) -> bool
     ensures { result ≡ reads_local op }
 {
-    op == ILOAD || op == LLOAD || op == IINC
+    matches!(op, ILOAD | LLOAD | IINC)
 }
 
 impl Instruction<'_> {

@@ -1,5 +1,6 @@
 -- `advance_framed` meets its contract. The loop's invariant is `Going`; the measure is how many steps are left. Assumes nothing.
 use Prim.Native.Nat.{ℕ, ◌-◌, ◌≤◌}
+use borrow.Author.Tests.{eqb-true}
 use mathlib.Core.List.{List}
 use mathlib.Core.Path.{◌≡◌, refl, sym, ap, ◌∙◌}
 use native.Mathlib.Omega.{arith}
@@ -35,13 +36,13 @@ module _ (l : Method) (slots₀ : List ℕ) (most : ℕ) (s₀ : State) (slots :
     decides decided decision q h =
         ap (settled r.state.return_type) h ∙ caught_settled l r.state decided ∙ ap (caught l r.state) (sym q ∙ led.decides) ∙ sym (decide_caught l r.state r.slots)
 
-pub returns-then-method-eq0 : goal.returns-then-method-eq0
-returns-then-method-eq0 c = let a = c.args in
+pub returns-then-is_empty : goal.returns-then-is_empty
+returns-then-is_empty c = let a = c.args in
     let l = lent a.method.now in
     let p = plain_steps l (a.most - 0) 0 a.s a.slots.now c.requires in
     let r = c.advance_plain.result in
     let e = c.advance_plain.ensures in
-    record { slots_after = e ∙ without_handlers l c.if-method-eq0.true a.most 0 a.s a.slots.now ∙ rw (sub-zero a.most); steps_le_most = omega (arith, p.upto, ap (λ (x : Reached). x.steps) e) }
+    record { slots_after = e ∙ without_handlers l (eqb-true _ 0 (sym c.is_empty.ensures ∙ c.if-is_empty.true)) a.most 0 a.s a.slots.now ∙ rw (sub-zero a.most); steps_le_most = omega (arith, p.upto, ap (λ (x : Reached). x.steps) e) }
 
 pub advance_plain-plain-requires : goal.advance_plain-plain-requires
 advance_plain-plain-requires c = let t = c.loop-u in record { slots_value = plain_framed _ _ _ t.invariant.framed; taken_le_most = t.invariant.upto }
