@@ -9,7 +9,7 @@ use integers::{Integer, high_word, low_word};
 use values::Value;
 
 // Up to six words, lowest first; those past the number that an instruction gives are 0. Named, and no array: rules/src/updates says why.
-#[derive(Clone, Copy)]
+#[derive(Clone, Copy, Default)]
 pub struct Six {
     pub w0: u32,
     pub w1: u32,

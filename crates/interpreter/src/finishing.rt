@@ -60,16 +60,6 @@ pub(crate) fn locate(i: Decoded, next: usize, placed: Placed) -> Located
     on_stack
 }
 
-// No words.
-const NO_WORDS: Six = Six {
-    w0: 0,
-    w1: 0,
-    w2: 0,
-    w3: 0,
-    w4: 0,
-    w5: 0,
-};
-
 // Where nothing is written the first place is 0.
 fn first_place(first: u32, many: u32) -> u32
     ensures { result ≡ first_place first many }
@@ -117,7 +107,7 @@ impl Instruction<'_> {
         ensures { result ≡ branch_of self.now.method.now.code.now self.now.pc self.now.located key true }
     {
         let to = jump_relative(self.method.code, self.pc, self.offset(key));
-        ordinary_to(to, self.located.depth, 0, 0, NO_WORDS)
+        ordinary_to(to, self.located.depth, 0, 0, Six::default())
     }
 
     // A branch, taken or not; `key` is the first word that it works on.
@@ -129,7 +119,7 @@ impl Instruction<'_> {
             return self.jump(key);
         }
         let to = inside(self.method.code, self.located.next);
-        ordinary_to(to, self.located.depth, 0, 0, NO_WORDS)
+        ordinary_to(to, self.located.depth, 0, 0, Six::default())
     }
 
     // What the step comes to, of what the instruction does; `key` is the first word that it works on.

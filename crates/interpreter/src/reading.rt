@@ -67,7 +67,7 @@ impl Instruction<'_> {
         match self.located.op {
             LDC => from_pool(load_constant(method, index, Width::One)),
             LDC2_W => from_pool(load_constant(method, index, Width::Two)),
-            // a guard: with the three as an or-pattern, and a jump joined to its branch, a step took 142.5 machine instructions and not 140.6
+            // a guard: tried: with the three as an or-pattern a step took 127.1 machine instructions and not 124.8
             op if reads_local(op) => Ok(four_at(slots, index)),
             _ => Ok(four_at(slots, self.located.base)),
         }
