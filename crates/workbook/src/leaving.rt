@@ -30,9 +30,8 @@ fn leave_state(state: &mut [u32], s: State, a: Pressed)
     requires { state_size ≤ length state.old }
     ensures { state.new ≡ state_after state.old s a }
 {
-    match a {
-        Ok(()) => write_state(state, s),
-        Err(_) => {}
+    if let Ok(()) = a {
+        write_state(state, s);
     }
 }
 
@@ -46,26 +45,13 @@ fn write_value(answer: &mut [u32], v: Value)
     write_words(answer, 0, &words);
 }
 
-// Writes the value of a return.
-fn leave_returned(answer: &mut [u32], halt: Halt)
-    requires { 2 ≤ length answer.old }
-    ensures { answer.new ≡ answer_after answer.old (Err halt) }
-{
-    match halt {
-        Halt::Return(v) => write_value(answer, v),
-        Halt::Throw => {}
-        Halt::Refused(_) => {}
-    }
-}
-
 // Writes the value where a press meets a return.
 pub(crate) fn leave_value(answer: &mut [u32], a: Pressed)
     requires { 2 ≤ length answer.old }
     ensures { answer.new ≡ answer_after answer.old a }
 {
-    match a {
-        Ok(()) => {}
-        Err(halt) => leave_returned(answer, halt),
+    if let Err(Halt::Return(v)) = a {
+        write_value(answer, v);
     }
 }
 
