@@ -6,30 +6,8 @@ use integers::{high_word, low_word};
 use rules::{Answer, Halt, Pressed};
 use values::Value;
 
-// A number alone.
-fn number_answer(number: u32) -> Answer
-    ensures { result ≡ answer number 0 }
-{
-    Answer {
-        number,
-        low: 0,
-        high: 0,
-    }
-}
-
-// A number and a word.
-fn word_answer(number: u32, word: u32) -> Answer
-    ensures { result ≡ answer number word }
-{
-    Answer {
-        number,
-        low: word,
-        high: 0,
-    }
-}
-
-// A number and the two words of a long or a double.
-fn long_answer(number: u32, value: u64) -> Answer
+// A number and the two words of a value: a word alone has no high one.
+pub fn answer(number: u32, value: u64) -> Answer
     ensures { result ≡ answer number value }
 {
     Answer {
@@ -39,17 +17,17 @@ fn long_answer(number: u32, value: u64) -> Answer
     }
 }
 
-// The value of a return.
+// The value of a return. Its numbers, 101 to 106, and 110 of a throw are those of the C interface.
 pub fn value_answer(v: Value) -> Answer
     ensures { result ≡ value_answer v }
 {
     match v {
-        Value::Void => number_answer(106),
-        Value::Int(w) => word_answer(101, w),
-        Value::Float(w) => word_answer(102, w),
-        Value::Reference(w) => word_answer(103, w),
-        Value::Long(d) => long_answer(104, d),
-        Value::Double(d) => long_answer(105, d),
+        Value::Void => answer(106, 0),
+        Value::Int(w) => answer(101, u64::from(w)),
+        Value::Float(w) => answer(102, u64::from(w)),
+        Value::Reference(w) => answer(103, u64::from(w)),
+        Value::Long(d) => answer(104, d),
+        Value::Double(d) => answer(105, d),
     }
 }
 
@@ -59,8 +37,8 @@ pub fn halt_answer(halt: Halt) -> Answer
 {
     match halt {
         Halt::Return(v) => value_answer(v),
-        Halt::Throw => number_answer(110),
-        Halt::Refused(refusal) => number_answer(refusal.number()),
+        Halt::Throw => answer(110, 0),
+        Halt::Refused(refusal) => answer(refusal.number(), 0),
     }
 }
 
@@ -69,7 +47,7 @@ pub fn pressed_answer(a: Pressed) -> Answer
     ensures { result ≡ pressed_answer a }
 {
     match a {
-        Ok(()) => number_answer(0),
+        Ok(()) => answer(0, 0),
         Err(halt) => halt_answer(halt),
     }
 }

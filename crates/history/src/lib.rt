@@ -7,7 +7,7 @@ mod forward_press;
 mod press_list;
 mod undo_log;
 
-pub use answer_words::{halt_answer, pressed_answer, value_answer};
+pub use answer_words::{answer, halt_answer, pressed_answer, value_answer};
 pub use back_press::back;
 pub use forward_press::{PressResult, forward, pressed_by};
 pub use press_list::presses;

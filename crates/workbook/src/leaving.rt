@@ -6,21 +6,17 @@ ghost use Rattle.workbook.specs.Calls.{state_after, answer_after, with_value, wi
 
 use crate::state_words::write_state;
 use frame::write_words;
-use history::{halt_answer, pressed_answer, value_answer};
+use history::{answer, halt_answer, pressed_answer, value_answer};
 use integers::{high_word, low_word};
 use rules::{Answer, End, Halt, Pressed, State};
 use values::Value;
 
-// What ended a run.
+// What ended a run: 120, a number of the C interface, where it was stopped.
 pub(crate) fn end_answer(end: End) -> Answer
     ensures { result ≡ end_answer end }
 {
     match end {
-        None => Answer {
-            number: 120,
-            low: 0,
-            high: 0,
-        },
+        None => answer(120, 0),
         Some(halt) => halt_answer(halt),
     }
 }
