@@ -43,10 +43,7 @@ fn grant(slots: &mut [u32], log: &mut [u32], s: State, u: Update) -> PressResult
 pub fn pressed_by(decision: Decision) -> Pressed
     ensures { result ≡ pressed_by decision }
 {
-    match decision {
-        Ok(_) => Ok(()),
-        Err(halt) => Err(halt),
-    }
+    decision.map(|_| ())
 }
 
 // A press of forward on any method, slots, log and state. One that is not granted writes nothing.

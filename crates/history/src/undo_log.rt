@@ -41,13 +41,14 @@ pub(crate) fn write_entry(slots: &[u32], log: &mut [u32], s: State, u: Update)
     write_words(log, at, &entry);
 }
 
-// An entry but for its old words.
+// An entry but for its old words, which are cut from the log by their place: a pattern `old @ ..` copies an array that is lent, and the borrow checker does not
+// cover that.
 #[derive(Clone, Copy)]
 struct Entry {
-    pub pc: u32,
-    pub depth: u32,
-    pub first: u32,
-    pub many: u32,
+    pc: u32,
+    depth: u32,
+    first: u32,
+    many: u32,
 }
 
 // The first four words of an entry.
