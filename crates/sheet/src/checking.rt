@@ -42,10 +42,7 @@ fn check_record(record: Record, before: Reading) -> Result<Reading, Refusal>
     ensures { result ≡ record_check record.entry.sheet.now record.entry.at before }
 {
     let length = record.sheet.len();
-    if length < record.body() {
-        return Err(Refusal::RecordCut);
-    }
-    if length < record.end() {
+    if length < record.body() || length < record.end() {
         return Err(Refusal::RecordCut);
     }
     let mark = known_mark(record.mark())?;

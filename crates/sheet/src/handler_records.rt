@@ -4,7 +4,7 @@ ghost use Rattle.rules.specs.declared.sheets.Mark.TheVariants.{EX};
 ghost use Rattle.rules.specs.Sheet.{is_catch_type, contents_read};
 ghost use Rattle.sheet.specs.Rows.{is_handler};
 
-use crate::records::{NextRecord, Records};
+use crate::records::{NextRecord, constants};
 use rules::{Mark, Reading, Refusal};
 
 // Where the four fields of an EX record lie.
@@ -23,12 +23,7 @@ fn is_catch_type(next: &NextRecord, catch_type: u16) -> bool
     if catch_type == 0 {
         return true;
     }
-    let constants = Records {
-        sheet: next.record.sheet,
-        at: next.before.code + next.before.code_length,
-        end: next.before.handlers,
-    };
-    constants.has_class(catch_type)
+    constants(next.record.sheet, &next.before).has_class(catch_type)
 }
 
 // Eight bytes; start below end; start and handler inside the code, and end at most its length; a catch type.

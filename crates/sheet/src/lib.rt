@@ -10,4 +10,4 @@ mod marks;
 mod records;
 
 pub use checking::check_sheet;
-pub use loading::{code_of, handlers_of, load, load_read, loaded_state};
+pub use loading::{code_of, handlers_length, handlers_of, load, load_read, loaded_state};

@@ -1,11 +1,11 @@
 // Loading a sheet: checked whole first, filled after.
 ghost use Rattle.std.specs.Prelude.{◌≡◌, ◌+◌, ◌≤◌};
-ghost use Rattle.rules.specs.Sheet.{sheet_check, state_type, loaded_state, accepted_load, refused_load, load_of, part_of, code_of, handlers_of};
+ghost use Rattle.rules.specs.Sheet.{sheet_check, state_type, loaded_state, handlers_length, accepted_load, refused_load, load_of, part_of, code_of, handlers_of};
 ghost use Rattle.sheet.specs.Filled.{after_load};
 
 use crate::checking::{check_sheet, is_enough};
 use crate::filling::{fill_pool, fill_slots};
-use crate::records::Records;
+use crate::records::constants;
 use rules::descriptors::Descriptor;
 use rules::{Loaded, Reading, Refusal, State};
 
@@ -44,6 +44,14 @@ fn state_type(descriptor: Option<Descriptor>) -> u32
     descriptor.map_or(0, |descriptor| descriptor.return_type)
 }
 
+// How many bytes of handlers there are: they end where the record of the arguments begins, four bytes before its body.
+pub fn handlers_length(p: Reading) -> usize
+    requires { p.handlers + 4 ≤ p.arguments }
+    ensures { result ≡ handlers_length p }
+{
+    p.arguments - 4 - p.handlers
+}
+
 // What an accepted load gives.
 fn accepted_load(p: Reading) -> Loaded
     requires { p.handlers + 4 ≤ p.arguments }
@@ -55,7 +63,7 @@ fn accepted_load(p: Reading) -> Loaded
         code: p.code,
         code_length: p.code_length,
         handlers: p.handlers,
-        handlers_length: p.arguments - 4 - p.handlers,
+        handlers_length: handlers_length(p),
     }
 }
 
@@ -74,12 +82,7 @@ pub fn load_read(
     if !is_enough(&p, slots, kinds, words) {
         return refused_load(Refusal::LentMemory);
     }
-    let constants = Records {
-        sheet,
-        at: p.code + p.code_length,
-        end: p.handlers,
-    };
-    fill_pool(constants, kinds, words);
+    fill_pool(constants(sheet, &p), kinds, words);
     fill_slots(sheet, p, slots);
     accepted_load(p)
 }

@@ -5,7 +5,7 @@ ghost use Rattle.rules.specs.Sheet.{is_last, is_narrow, tag_suits, word_suits, k
 use rules::tags::*;
 use rules::{Mark, Refusal};
 
-// The marks in ASCII.
+// The marks in ASCII, as numbers: a constant's value may call no function, so not `u16::from_be_bytes`.
 const LM: u16 = 0x4C4D;
 
 const DS: u16 = 0x4453;

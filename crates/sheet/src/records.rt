@@ -123,6 +123,20 @@ pub(crate) struct Records<'a> {
     pub ghost within: { end ≤ length sheet.now },
 }
 
+// The records between the code and the handlers of what was read, which are its constants.
+pub(crate) fn constants<'a>(sheet: &'a [u8], p: &Reading) -> Records<'a>
+    requires { (p.now.code + p.now.code_length ≤ p.now.handlers) × (p.now.handlers ≤ length sheet.now) }
+    ensures sheet { result.sheet.now ≡ sheet.now }
+    ensures at { result.at ≡ p.now.code + p.now.code_length }
+    ensures end { result.end ≡ p.now.handlers }
+{
+    Records {
+        sheet,
+        at: p.code + p.code_length,
+        end: p.handlers,
+    }
+}
+
 impl<'a> Iterator for Records<'a> {
     ghost use Rattle.std.specs.Prelude.{◌-◌};
     ghost use Rattle.std.specs.Iterator.{at_most};

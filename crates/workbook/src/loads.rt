@@ -9,20 +9,17 @@ ghost use Rattle.workbook.specs.Demand3.{FromThisLoad};
 use crate::state_words::{ANSWER_WORDS, are_lent, write_state};
 use frame::write_words;
 use rules::{Loaded, Reading, Refusal};
-use sheet::{check_sheet, load_read};
+use sheet::{check_sheet, handlers_length, load_read};
 
 // Whether there are state and answer words, and the length of the handlers is a word.
 fn has_words(state: &[u32], answer: &[u32], p: Reading) -> bool
     requires { p.handlers + 4 ≤ p.arguments }
     ensures { result ≡ is_passed (words_check state.now answer.now p) }
 {
-    if !are_lent(state, answer) {
-        return false;
-    }
-    p.arguments - 4 - p.handlers <= 0xFFFF_FFFF
+    are_lent(state, answer) && handlers_length(p) <= 0xFFFF_FFFF
 }
 
-// Writes where the code begins and how long it is, and the same of the handlers.
+// Writes where the code begins and how long it is, and the same of the handlers: `as u32`, since the contract keeps each in range.
 fn write_parts(answer: &mut [u32], loaded: Loaded)
     requires in_bounds { 4 ≤ length answer.old }
     requires code_bound { (loaded.code < 2 ^ 32) × (loaded.code_length < 2 ^ 32) × (loaded.handlers < 2 ^ 32) × (loaded.handlers_length < 2 ^ 32) }
@@ -37,7 +34,7 @@ fn write_parts(answer: &mut [u32], loaded: Loaded)
     write_words(answer, 0, &words);
 }
 
-// Loads a sheet that was read.
+// Loads a sheet that was read. Slots, kinds and words are lent one by one, as the C interface has them.
 fn load_lent(
     sheet: &[u8],
     slots: &mut [u32],

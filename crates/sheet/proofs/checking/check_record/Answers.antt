@@ -3,14 +3,14 @@ use mathlib.Core.Path.{sym, ◌∙◌}
 use Rattle.std.proofs.lemmas.Result.{err_from_is_err_and}
 use Rattle.rules.proofs.Sheet.{head_cut, body_cut, unknown, marked}
 use Rattle.sheet.proofs.checking.check_record.Goals as goal
+use Rattle.sheet.proofs.checking.check_record.Goals.{then-length-body-via-then-length-body, then-length-body-via-else-length-body+then-length-end}
 
 pub returns-then-length-body : goal.returns-then-length-body
 returns-then-length-body c = let a = c.args in
-    sym (head_cut a.record.sheet.now a.record.at a.before (rw c.body.ensures at c.if-length-body.true))
-
-pub returns-then-length-end : goal.returns-then-length-end
-returns-then-length-end c = let a = c.args in
-    sym (body_cut a.record.sheet.now a.record.at a.before (rw c.body.ensures at c.if-length-body.false) (rw c.end.ensures at c.if-length-end.true))
+    elim c.then-length-body.branch [
+      | then-length-body-via-then-length-body w ↦ sym (head_cut a.record.sheet.now a.record.at a.before (rw c.body.ensures at w.if-length-body.true))
+      | then-length-body-via-else-length-body+then-length-end w ↦ sym (body_cut a.record.sheet.now a.record.at a.before (rw c.body.ensures at w.if-length-body.false) (rw w.end.ensures at w.if-length-end.true))
+    ]
 
 pub returns-in_err-mark : goal.returns-in_err-mark
 returns-in_err-mark c = let a = c.args in

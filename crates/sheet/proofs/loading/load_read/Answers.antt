@@ -11,11 +11,8 @@ returns-then-not-is_enough c = let a = c.args in
     rw c.refused_load.ensures (load_short a.sheet.now a.slots.now a.kinds.now a.words.now a.p c.requires _
     (no _ _ _ _ (memory_row a.p a.slots.now a.kinds.now a.words.now) c.is_enough.ensures c.if-not-is_enough.true))
 
-pub overflow_add-constants : goal.overflow_add-constants
-overflow_add-constants c = let w = whole c.args.sheet.now c.args.p c.requires in omega arith
-
-pub invariant_of-constants : goal.invariant_of-constants
-invariant_of-constants c = let w = whole c.args.sheet.now c.args.p c.requires in record { within = omega arith }
+pub constants-requires : goal.constants-requires
+constants-requires c = let w = whole c.args.sheet.now c.args.p c.requires in (omega arith, omega arith)
 
 pub fill_slots-requires : goal.fill_slots-requires
 fill_slots-requires c = let a = c.args in
@@ -28,4 +25,4 @@ accepted_load-requires c = (whole c.args.sheet.now c.args.p c.requires).handlers
 pub returns : goal.returns
 returns c = let a = c.args in
     rw (c.accepted_load.ensures, c.fill_slots.ensures)
-    (load_accepted a.sheet.now a.slots.now a.kinds.now a.words.now a.p c.requires (yes _ _ _ _ (memory_row a.p a.slots.now a.kinds.now a.words.now) c.is_enough.ensures c.if-not-is_enough.false) (pool _ _) c.fill_pool.ensures)
+    (load_accepted a.sheet.now a.slots.now a.kinds.now a.words.now a.p c.requires (yes _ _ _ _ (memory_row a.p a.slots.now a.kinds.now a.words.now) c.is_enough.ensures c.if-not-is_enough.false) (pool _ _) (rw (c.constants.ensures.sheet, c.constants.ensures.at, c.constants.ensures.end) at c.fill_pool.ensures))

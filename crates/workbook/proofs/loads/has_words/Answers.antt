@@ -8,11 +8,11 @@ use Rattle.rules.proofs.Check.{last_asked}
 use Rattle.workbook.proofs.Checks.{words_short, words_long, word_most}
 use Rattle.workbook.proofs.loads.has_words.Goals as goal
 
-pub returns-then-not-are_lent : goal.returns-then-not-are_lent
-returns-then-not-are_lent c = let a = c.args in
-    sym (ap is_passed (words_short a.state.now a.answer.now a.p (sym c.are_lent.ensures ∙ c.if-not-are_lent.true)))
+pub returns-then-are_lent : goal.returns-then-are_lent
+returns-then-are_lent c = let a = c.args in
+    let long = words_long a.state.now a.answer.now a.p (sym c.are_lent.ensures ∙ c.if-are_lent.true) in
+    rw c.handlers_length.ensures (word_most (handlers_length a.p) ∙ last_asked (ltb (handlers_length a.p) (2 ^ 32)) _ ∙ sym (ap is_passed long))
 
-pub returns : goal.returns
-returns c = let a = c.args in
-    let long = words_long a.state.now a.answer.now a.p (sym c.are_lent.ensures ∙ c.if-not-are_lent.false) in
-    word_most (handlers_length a.p) ∙ last_asked (ltb (handlers_length a.p) (2 ^ 32)) _ ∙ sym (ap is_passed long)
+pub returns-else-are_lent : goal.returns-else-are_lent
+returns-else-are_lent c = let a = c.args in
+    c.if-are_lent.false ∙ sym (ap is_passed (words_short a.state.now a.answer.now a.p (sym c.are_lent.ensures ∙ c.if-are_lent.false)))
