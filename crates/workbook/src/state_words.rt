@@ -16,10 +16,7 @@ pub(crate) const ANSWER_WORDS: usize = 4;
 pub(crate) fn are_lent(state: &[u32], answer: &[u32]) -> bool
     ensures { result ≡ is_passed (lengths_check state.now answer.now 4) }
 {
-    if state.len() < STATE_WORDS {
-        return false;
-    }
-    ANSWER_WORDS <= answer.len()
+    STATE_WORDS <= state.len() && ANSWER_WORDS <= answer.len()
 }
 
 // A word as a size, which is at most 65,535.
