@@ -24,3 +24,18 @@ impl Memory {
         })
     }
 }
+
+#[cfg(test)]
+mod tests {
+    use super::*;
+    use std::test::Fail;
+
+    #[test]
+    fn makes_zeroed_memory(rt: HostRuntime) -> Result<(), Fail> {
+        let memory = Memory::zeroed(rt.alloc(), 2, 3)?;
+        assert_eq!(rt; memory.slots.as_slice(), [0, 0].as_slice());
+        assert_eq!(rt; memory.pool.kinds.as_slice(), [0, 0, 0].as_slice());
+        assert_eq!(rt; memory.pool.words.as_slice(), [0, 0, 0].as_slice());
+        Ok(())
+    }
+}

@@ -52,3 +52,20 @@ impl Pool {
         }
     }
 }
+
+#[cfg(test)]
+mod tests {
+    use super::*;
+    use std::test::Fail;
+
+    #[test]
+    fn fills_a_pool(rt: HostRuntime) -> Result<(), Fail> {
+        let pool = Pool::filled(rt.alloc(), 2, 3, 0xDEAD_DEAD)?;
+        assert_eq!(rt; pool.kinds.as_slice(), [3, 3].as_slice());
+        assert_eq!(rt;
+            pool.words.as_slice(),
+            [0xDEAD_DEAD, 0xDEAD_DEAD].as_slice()
+        );
+        Ok(())
+    }
+}
