@@ -36,7 +36,7 @@ fn is_laid_out(line: &Line) -> bool {
 
 // Whether a line with its fields holds; none where one is malformed.
 fn fields_hold(line: &Line) -> Option<bool> {
-    let op = number(line, 0, 2)?;
+    let op = u8::try_from(number(line, 0, 2)?).ok()?;
     let a = number(line, 13, 29)?;
     let b = number(line, 30, 46)?;
     let result = number(line, 47, 63)?;
@@ -48,40 +48,58 @@ fn holds(line: &Line) -> bool {
     is_laid_out(line) && fields_hold(line).unwrap_or(false)
 }
 
-// The opcode and the name of a line's function.
-fn function_of(line: &Line) -> &[u8] {
-    &line[..12]
+// The function whose vectors are read: its first line, and its tally.
+#[derive(Clone, Copy)]
+struct Function {
+    first: Line,
+    tally: Tally,
 }
 
-// Prints the tally of a function, with the name that stands in its first line, if it had a vector.
-fn print_function(rt: &impl Print, first: &Line, tally: Tally) -> io::Result<()> {
-    if tally.vectors == 0 {
-        return Ok(());
+impl Function {
+    // A function that a line begins.
+    fn begun(first: Line) -> Function {
+        Function {
+            first,
+            tally: Tally::default(),
+        }
     }
-    rt.write_all(&first[3..13])?;
-    println!(rt; "{tally}")
+
+    // Whether a line is a vector of it, by the opcode and the name.
+    fn has(&self, line: &Line) -> bool {
+        self.first[..12] == line[..12]
+    }
+
+    // Prints the name and the tally.
+    fn print(&self, rt: &impl Print) -> io::Result<()> {
+        rt.write_all(&self.first[3..13])?;
+        println!(rt; "{}", self.tally)
+    }
 }
 
 // Reads line by line, and prints the tally of a function when the next one begins.
 fn main(rt: HostRuntime) -> io::Result<()> {
     let mut total = Tally::default();
-    let mut of_function = Tally::default();
-    let mut first = [b' '; 64];
+    let mut current: Option<Function> = None;
     let mut stdin = rt.stdin();
     for _ in 0..MOST {
         let Some(line) = read_record(&mut stdin, b' ')? else {
             break;
         };
-        // A malformed line is counted with the function before it.
-        if is_laid_out(&line) && function_of(&first) != function_of(&line) {
-            print_function(&rt, &first, of_function)?;
-            of_function = Tally::default();
-            first = line;
+        if is_laid_out(&line) && !current.is_some_and(|function| function.has(&line)) {
+            if let Some(function) = current {
+                function.print(&rt)?;
+            }
+            current = Some(Function::begun(line));
         }
         let is_right = holds(&line);
-        of_function.count(is_right);
         total.count(is_right);
+        // A malformed line is counted with the function before it, if there is one.
+        if let Some(function) = &mut current {
+            function.tally.count(is_right);
+        }
     }
-    print_function(&rt, &first, of_function)?;
+    if let Some(function) = current {
+        function.print(&rt)?;
+    }
     println!(rt; "{total}")
 }
