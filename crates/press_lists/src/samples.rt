@@ -8,7 +8,7 @@ use std::io::Read;
 // The head of a sample.
 pub(crate) type Head = [u8; 80];
 
-// The name in a head, without the blanks after it.
+// The name in a head, without the blanks after it; not `first_word`, for the name may be of several words.
 pub(crate) fn name_of(head: &Head) -> &[u8] {
     head[..40].trim_ascii_end()
 }

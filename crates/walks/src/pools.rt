@@ -27,7 +27,8 @@ impl Pool {
         })
     }
 
-    // Loads a sheet: where its parts lie, or why it is refused.
+    // Loads a sheet: where its parts lie, or why it is refused. The programs print a refusal themselves: a function that did
+    // would give an option, and to take that apart is longer than the arm of `match` that prints.
     pub fn load(&mut self, sheet: &[u8], slots: &mut [u32]) -> Result<Loaded, Refusal>
         ensures { MatchResult result
             (λ loaded. (loaded.answer ≡ Ok tt) × (after_load loaded slots.new self.new.kinds.items self.new.words.items ≡ load_of sheet.now slots.old self.old.kinds.items self.old.words.items))
