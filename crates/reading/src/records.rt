@@ -18,7 +18,9 @@ fn read_padded<R: Read>(input: &mut R, buffer: &mut [u8], filler: u8) -> io::Res
     Ok(count)
 }
 
-// The next N bytes, or none at the end of the input.
+// The next N bytes, or none at the end of the input. The programs loop over records themselves: an iterator would keep the input,
+// from which three of them read on after a record, and the contract of a function that takes a closure would have to relate the
+// input before and after each call, which no program needs.
 pub fn read_record<R: Read, const N: usize>(
     input: &mut R,
     filler: u8,
