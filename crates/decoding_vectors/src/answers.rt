@@ -10,6 +10,7 @@ pub(crate) type Answer = Result<[u64; 3], Refusal>;
 
 // The entry of the opcode at an offset, of the one after it where it is WIDE.
 fn expected_entry(code: &[u8], pc: u32) -> Option<Entry> {
+    // `usize` has no `From<u32>`, here and for a switch
     let at = pc as usize;
     match read_code_u8(code, at) {
         WIDE => entry(read_code_u8(code, at + 1)),

@@ -49,6 +49,7 @@ fn main(rt: HostRuntime) -> io::Result<()> {
             break;
         };
         let [bits, high, middle, low] = head;
+        // `usize` has no `From<u32>`
         let length = u32::from_be_bytes([0, high, middle, low]) as usize;
         trial(&rt, &mut stdin, length, bits > 0)?;
     }

@@ -11,6 +11,7 @@ use std::io;
 
 // Prints the line of an ordinary step: the steps before it, and the offset, the opcode, the depth and the word on top where it begins.
 fn print_step(rt: &impl Print, steps: u64, code: &[u8], slots: &[u32], s: State) -> io::Result<()> {
+    // `usize` has no `From<u32>`, here and for the depth
     let opcode = code.get(s.pc as usize).copied().unwrap_or(0);
     print!(rt; "{steps} {} {opcode} {}", s.pc, s.depth)?;
     if s.depth == 0 {
