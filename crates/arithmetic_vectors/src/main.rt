@@ -69,8 +69,11 @@ impl Function {
         self.first[..12] == line[..12]
     }
 
-    // Prints the name and the tally.
+    // Prints the name and the tally, if it had a vector.
     fn print(&self, rt: &impl Print) -> io::Result<()> {
+        if self.tally.vectors == 0 {
+            return Ok(());
+        }
         rt.write_all(&self.first[3..13])?;
         println!(rt; "{}", self.tally)
     }
@@ -79,27 +82,21 @@ impl Function {
 // Reads line by line, and prints the tally of a function when the next one begins.
 fn main(rt: HostRuntime) -> io::Result<()> {
     let mut total = Tally::default();
-    let mut current: Option<Function> = None;
+    // Malformed lines are counted with the function before them, and those before the first under a blank name: so there is always one.
+    let mut current = Function::begun([b' '; 64]);
     let mut stdin = rt.stdin();
     for _ in 0..MOST {
         let Some(line) = read_record(&mut stdin, b' ')? else {
             break;
         };
-        if is_laid_out(&line) && !current.is_some_and(|function| function.has(&line)) {
-            if let Some(function) = current {
-                function.print(&rt)?;
-            }
-            current = Some(Function::begun(line));
+        if is_laid_out(&line) && !current.has(&line) {
+            current.print(&rt)?;
+            current = Function::begun(line);
         }
         let is_right = holds(&line);
+        current.tally.count(is_right);
         total.count(is_right);
-        // A malformed line is counted with the function before it, if there is one.
-        if let Some(function) = &mut current {
-            function.tally.count(is_right);
-        }
     }
-    if let Some(function) = current {
-        function.print(&rt)?;
-    }
+    current.print(&rt)?;
     println!(rt; "{total}")
 }
