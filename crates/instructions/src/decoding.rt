@@ -31,42 +31,81 @@ fn core(opcode: u8) -> Result<Entry, Refusal>
     entry(opcode).ok_or(Refusal::Opcode)
 }
 
-// Question 5 for an instruction of a length in bytes.
-fn sized(
-    code: &[u8],
-    pc: u32,
-    entry: Entry,
-    size: usize,
-    index: u32,
-    constant: u32,
-) -> Result<Decoded, Refusal>
-    requires { size < 512 }
-    ensures { result ≡ sized_of code.now pc entry size index constant }
-{
-    if code.len() < pc as usize + size {
-        return Err(Refusal::OperandBytes);
-    }
-    Ok(Decoded {
-        entry,
-        size,
-        index,
-        constant,
-    })
-}
-
-// Question 5 for an instruction of the length of its format.
-fn fixed(code: &[u8], pc: u32, entry: Entry, index: u32, constant: u32) -> Result<Decoded, Refusal>
-    ensures { result ≡ fixed_of code.now pc entry index constant }
-{
-    let size = usize::from(entry.format.length());
-    sized(code, pc, entry, size, index, constant)
-}
-
 // Whether WIDE takes an opcode.
 fn is_widened(opcode: u8) -> bool
     ensures { result ≡ widens opcode }
 {
     matches!(opcode, ILOAD..=ALOAD | ISTORE..=ASTORE | IINC)
+}
+
+// An instruction in the code, before its operands are read: its offset and its entry.
+#[derive(Clone, Copy)]
+struct Instruction<'a> {
+    code: &'a [u8],
+    pc: u32,
+    entry: Entry,
+}
+
+impl<'a> Instruction<'a> {
+    // Question 5 for an instruction of a length in bytes.
+    fn sized(self, size: usize, index: u32, constant: u32) -> Result<Decoded, Refusal>
+        requires { size < 512 }
+        ensures { result ≡ sized_of self.entry.code.now self.entry.pc self.entry.entry size index constant }
+    {
+        if self.code.len() < self.pc as usize + size {
+            return Err(Refusal::OperandBytes);
+        }
+        Ok(Decoded {
+            entry: self.entry,
+            size,
+            index,
+            constant,
+        })
+    }
+
+    // Question 5 for an instruction of the length of its format.
+    fn fixed(self, index: u32, constant: u32) -> Result<Decoded, Refusal>
+        ensures { result ≡ fixed_of self.entry.code.now self.entry.pc self.entry.entry index constant }
+    {
+        let size = usize::from(self.entry.format.length());
+        self.sized(size, index, constant)
+    }
+
+    // An accepted switch as an instruction.
+    fn switched(self, switch: Switch) -> Decoded
+        ensures { result ≡ instruction_by self.entry.entry switch.size 0 switch.default }
+    {
+        Decoded {
+            entry: self.entry,
+            size: switch.size,
+            index: 0,
+            constant: switch.default,
+        }
+    }
+
+    // The instruction, by its format.
+    fn by_format(self) -> Result<Decoded, Refusal>
+        ensures { (row : Row) → result ≡ decoded_by self.entry.code.now self.entry.pc row self.entry.entry self.entry.entry.format }
+    {
+        let code = self.code;
+        let at = self.pc as usize + 1;
+        match self.entry.format {
+            Format::Alone => self.fixed(0, 0),
+            Format::Implied(index) => self.fixed(u32::from(index), 0),
+            Format::Byte => self.fixed(0, read_code_i8(code, at)),
+            Format::Short => self.fixed(0, read_code_i16(code, at)),
+            Format::Index => self.fixed(u32::from(read_code_u8(code, at)), 0),
+            Format::Index2 => self.fixed(u32::from(read_code_u16(code, at)), 0),
+            Format::IndexConst => {
+                let index = u32::from(read_code_u8(code, at));
+                self.fixed(index, read_code_i8(code, at + 1))
+            }
+            Format::Branch4 => self.fixed(0, read_code_u32(code, at)),
+            Format::Table => Ok(self.switched(table_switch(code, self.pc)?)),
+            Format::Pairs => Ok(self.switched(lookup_switch(code, self.pc)?)),
+            Format::Widened => wide(code, self.pc),
+        }
+    }
 }
 
 // WIDE: an instruction with its operands at twice the size.
@@ -82,46 +121,12 @@ fn wide(code: &[u8], pc: u32) -> Result<Decoded, Refusal>
         return Err(Refusal::Opcode);
     }
     let entry = core(opcode)?;
+    let instruction = Instruction { code, pc, entry };
     let index = u32::from(read_code_u16(code, at + 2));
     if opcode == IINC {
-        return sized(code, pc, entry, 6, index, read_code_i16(code, at + 4));
+        return instruction.sized(6, index, read_code_i16(code, at + 4));
     }
-    sized(code, pc, entry, 4, index, 0)
-}
-
-// An accepted switch as an instruction.
-fn switched(entry: Entry, switch: Switch) -> Decoded
-    ensures { result ≡ instruction_by entry switch.size 0 switch.default }
-{
-    Decoded {
-        entry,
-        size: switch.size,
-        index: 0,
-        constant: switch.default,
-    }
-}
-
-// The instruction at an offset, by its entry.
-fn by_entry(code: &[u8], pc: u32, entry: Entry) -> Result<Decoded, Refusal>
-    ensures { (row : Row) → result ≡ decoded_by code.now pc row entry entry.format }
-{
-    let at = pc as usize + 1;
-    match entry.format {
-        Format::Alone => fixed(code, pc, entry, 0, 0),
-        Format::Implied(index) => fixed(code, pc, entry, u32::from(index), 0),
-        Format::Byte => fixed(code, pc, entry, 0, read_code_i8(code, at)),
-        Format::Short => fixed(code, pc, entry, 0, read_code_i16(code, at)),
-        Format::Index => fixed(code, pc, entry, u32::from(read_code_u8(code, at)), 0),
-        Format::Index2 => fixed(code, pc, entry, u32::from(read_code_u16(code, at)), 0),
-        Format::IndexConst => {
-            let index = u32::from(read_code_u8(code, at));
-            fixed(code, pc, entry, index, read_code_i8(code, at + 1))
-        }
-        Format::Branch4 => fixed(code, pc, entry, 0, read_code_u32(code, at)),
-        Format::Table => Ok(switched(entry, table_switch(code, pc)?)),
-        Format::Pairs => Ok(switched(entry, lookup_switch(code, pc)?)),
-        Format::Widened => wide(code, pc),
-    }
+    instruction.sized(4, index, 0)
 }
 
 // The instruction at an offset.
@@ -129,5 +134,5 @@ pub fn decode(code: &[u8], pc: u32) -> Result<Decoded, Refusal>
     ensures { result ≡ decoded (fetched code.now pc) }
 {
     let entry = core(read_code_u8(code, pc as usize))?;
-    by_entry(code, pc, entry)
+    Instruction { code, pc, entry }.by_format()
 }

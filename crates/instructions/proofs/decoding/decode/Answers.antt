@@ -12,4 +12,4 @@ returns-in_err-entry c =
 
 pub returns : goal.returns
 returns c =
-    instruction_is c.args.code.now c.args.pc _ (ap core_of (sym c.read_code_u8.ensures) ∙ sym c.core.ensures ∙ c.in_ok-entry.was) c.by_entry.result c.by_entry.ensures
+    instruction_is c.args.code.now c.args.pc _ (ap core_of (sym c.read_code_u8.ensures) ∙ sym c.core.ensures ∙ c.in_ok-entry.was) c.by_format.result c.by_format.ensures

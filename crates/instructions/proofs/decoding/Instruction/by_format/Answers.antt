@@ -1,9 +1,9 @@
--- `by_entry` meets its contract. Assumes nothing.
+-- `Instruction::by_format` meets its contract. Assumes nothing.
 use mathlib.Core.Path.{◌≡◌}
 use native.Mathlib.Omega.{arith}
 use Rattle.values.specs.Integers.{signed, low}
 use Rattle.values.proofs.LowBits.{low_word}
-use Rattle.instructions.proofs.decoding.by_entry.Goals as goal
+use Rattle.instructions.proofs.decoding.Instruction.by_format.Goals as goal
 
 pub returns-in-Branch4 : goal.returns-in-Branch4
 returns-in-Branch4 c = λ row.
