@@ -1,9 +1,10 @@
 // The result of a function for the operands of a vector. A function is known by its opcode in JVMS, IINC after WIDE by that of WIDE.
 
 use conversions::{of_float, of_int, to_int};
-use floats::{Arithmetic, Unordered, compare};
+use floats::{Arithmetic, compare};
 use instructions::opcodes::*;
 use integers::{Integer, cmpeq, cmpne, icmple, icmplt, lcmp};
+use std::cmp::Ordering;
 
 // An operand that is a word; one that is wider has no result.
 fn word(x: u64) -> Option<u32> {
@@ -91,10 +92,10 @@ fn of_two_words(op: u8, a: u64) -> Option<u64> {
 fn order(op: u8, a: u64, b: u64) -> Option<u32> {
     match op {
         LCMP => Some(lcmp(a, b)),
-        FCMPL => Some(compare::<f32>(word(a)?, word(b)?, Unordered::Less)),
-        FCMPG => Some(compare::<f32>(word(a)?, word(b)?, Unordered::Greater)),
-        DCMPL => Some(compare::<f64>(a, b, Unordered::Less)),
-        DCMPG => Some(compare::<f64>(a, b, Unordered::Greater)),
+        FCMPL => Some(compare::<f32>(word(a)?, word(b)?, Ordering::Less)),
+        FCMPG => Some(compare::<f32>(word(a)?, word(b)?, Ordering::Greater)),
+        DCMPL => Some(compare::<f64>(a, b, Ordering::Less)),
+        DCMPG => Some(compare::<f64>(a, b, Ordering::Greater)),
         _ => None,
     }
 }

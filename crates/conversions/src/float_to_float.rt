@@ -1,4 +1,5 @@
 // Floats and doubles to one another, rounded once: the fields are converted without the sign, and the sign is put back.
+// `as` where an exponent is cut: it is at most `ones`, and TryFrom would give a Result that cannot fail.
 ghost use Rattle.std.specs.Prelude.{◌≡◌, false, ◌<◌, ◌≤◌};
 ghost use Rattle.std.specs.Float.Ieee.{of_bits, of_fields, to_bits, prec, hid, ones};
 ghost use Rattle.values.specs.Floats.{nearest};

@@ -1,4 +1,5 @@
 // The formats of IEEE 754 by the words that their values are stored as (JVMS 2.3.2): of a float f32, of a double f64.
+// The impls are written out, since no macro may write one here.
 ghost use Rattle.std.specs.Prelude.{◌≡◌, ◌*◌, ◌<◌, ◌^◌, refl};
 ghost use Rattle.std.specs.Float.Ieee as Ieee;
 ghost use Rattle.std.specs.Float.{nan, binary32, binary64};

@@ -1,4 +1,5 @@
-// Words of 32 and 64 bits by their numbers: an int or a float, a long or a double.
+// Words of 32 and 64 bits by their numbers: an int or a float, a long or a double. The impls are written out, since no macro may write one here.
+// `as` where a number is cut: the contract keeps it in range, and TryFrom would give a Result that cannot fail.
 ghost use Rattle.std.specs.Prelude.{◌≡◌, ℕ, ◌*◌, ◌<◌, ◌≤◌, ◌^◌};
 ghost use Rattle.std.proofs.Common.{lit≤};
 

@@ -5,9 +5,10 @@ ghost use Rattle.effects.specs.Effects.{effect_at};
 ghost use Rattle.effects.specs.Families.{comparison_opcodes};
 
 use crate::outcome::{Effect, one};
-use floats::{Unordered, compare};
+use floats::compare;
 use instructions::opcodes::*;
 use integers::{join_words, lcmp};
+use std::cmp::Ordering;
 
 // LCMP to DCMPG.
 #[tactic(auto, unfolding(crate::specs::Effects::effect_at, rules::specs::Instructions::row_of))]
@@ -19,9 +20,9 @@ pub(crate) fn comparison_effect(op: u8, a: u32, b: u32, c: u32, d: u32) -> Effec
     let y = join_words(c, d);
     match op {
         LCMP => one(lcmp(x, y)),
-        FCMPL => one(compare::<f32>(a, b, Unordered::Less)),
-        FCMPG => one(compare::<f32>(a, b, Unordered::Greater)),
-        DCMPL => one(compare::<f64>(x, y, Unordered::Less)),
-        _ => one(compare::<f64>(x, y, Unordered::Greater)), // DCMPG
+        FCMPL => one(compare::<f32>(a, b, Ordering::Less)),
+        FCMPG => one(compare::<f32>(a, b, Ordering::Greater)),
+        DCMPL => one(compare::<f64>(x, y, Ordering::Less)),
+        _ => one(compare::<f64>(x, y, Ordering::Greater)), // DCMPG
     }
 }

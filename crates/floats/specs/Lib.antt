@@ -1,3 +1,2 @@
 pub mod Operators
 pub mod Remainder
-pub mod Unordered

@@ -8,4 +8,4 @@ mod remainder;
 
 pub use arithmetic::{add, div, mul, neg, rem, sub};
 pub use machine::Arithmetic;
-pub use order::{Unordered, compare};
+pub use order::compare;

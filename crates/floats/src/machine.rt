@@ -1,4 +1,4 @@
-// The formats as the machine has them: f32 and f64, with Rust's operators.
+// The formats as the machine has them: f32 and f64, with Rust's operators. The impls are written out, since no macro may write one here.
 ghost use Rattle.std.specs.Prelude.{◌≡◌, Float, T, not};
 ghost use Rattle.std.specs.Float.{binary32, binary64, NotNan};
 ghost use Rattle.std.specs.Float.Ieee.{of_bits, to_bits, nan_bits};

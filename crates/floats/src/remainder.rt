@@ -31,7 +31,7 @@ fn moved_remainder(m: u64, shift: u64, n: u64) -> u64
     ensures { result ≡ m * 2 ^ shift % n }
 {
     let mut rest = m % n;
-    for i in 0..shift {
+    for _ in 0..shift {
         rest = rest * 2 % n;
     }
     rest

@@ -2,13 +2,16 @@
 -- with the sign and extensions are computed there. Assumes nothing.
 use Rattle.std.proofs.Common.{◌≡◌, ℕ, zero, suc, ◌-◌, ◌/◌, ◌^◌, ◌<◌, ◌≤◌, Bool, true, false, cond, ltb, ℤ, pos, negsuc, neg_ℤ, sym, refl, ap, ◌∙◌, subst, ap₂, div-le_self, arith}
 use Rattle.std.specs.Int.{int_wrapping_div}
+use Rattle.std.specs.Ordering.{int_cmp, match_ordering}
+use Rattle.std.specs.declared.cmp.Ordering.{Ordering}
+use Rattle.std.specs.declared.cmp.Ordering.TheVariants.{Less, Equal, Greater}
 use Rattle.std.proofs.lemmas.Int.{of_z-to_z}
 use lib.Pow.{pow-lt}
 use lib.Signed.{mag, lt_z, quot_z, rem_z, shr_z, mag_rem, mag_shr}
 use mir.Syntax.{Width, w8, w16, w32, w64, w128}
 use mir.Val.{bits, hbits, of_z, to_z, sel}
 use mir.ValLaws.{to_z-Fits}
-use Rattle.values.specs.Integers.{signed, low}
+use Rattle.values.specs.Integers.{−1, signed, low, order}
 use Rattle.values.proofs.Integers.{low_plus, low_minus}
 use Rattle.values.proofs.LowBits.{low_lt}
 
@@ -66,6 +69,15 @@ mag_quotient (pos a) (negsuc b) = omega (arith, mag_negative (a / suc b), div-le
 mag_quotient (negsuc a) (pos b) = omega (arith, mag_negative (suc a / b), div-le_self (suc a) b)
 mag_quotient (negsuc a) (negsuc b) = div-le_self (suc a) (suc b)
 
+-- the order that the machine gives, as a number
+ordered : (x y : ℤ) → match_ordering (int_cmp x y) −1 (pos 0) (pos 1) ≡ order x y
+ordered x y = go (lt_z x y) (lt_z y x)
+  where
+    go : (s t : Bool) → match_ordering (cond s Less (cond t Greater Equal)) −1 (pos 0) (pos 1) ≡ cond s −1 (cond t (pos 1) (pos 0))
+    go true t = refl
+    go false true = refl
+    go false false = refl
+
 module _ (w : Width) (a : ℕ) (A : a < 2 ^ bits w) {s : ℤ} (S : s ≡ to_z w a) where
   -- a result that is not much further from 0 has the same bits
   kept : (z : ℤ) → mag z ≤ suc (mag (signed (hbits w) a)) → mag z < 2 ^ bits w
@@ -74,6 +86,11 @@ module _ (w : Width) (a : ℕ) (A : a < 2 ^ bits w) {s : ℤ} (S : s ≡ to_z w 
   module _ (b : ℕ) (B : b < 2 ^ bits w) {t : ℤ} (T : t ≡ to_z w b) where
     pub less : lt_z (to_z w (of_z w s)) (to_z w (of_z w t)) ≡ lt_z (signed (hbits w) a) (signed (hbits w) b)
     less = ap₂ lt_z (read w a A S) (read w b B T)
+
+    pub compared : {o : Ordering} {r : ℕ} → o ≡ int_cmp (to_z w (of_z w s)) (to_z w (of_z w t)) → r ≡ low 32 (match_ordering o −1 (pos 0) (pos 1)) → r ≡ low 32 (order (signed (hbits w) a) (signed (hbits w) b))
+    compared D R = let x = signed (hbits w) a in
+        let y = signed (hbits w) b in
+        R ∙ ap (λ (o : Ordering). low 32 (match_ordering o −1 (pos 0) (pos 1))) (D ∙ ap₂ int_cmp (read w a A S) (read w b B T)) ∙ ap (low 32) (ordered x y)
 
     pub quotient : {d : ℤ} {r : ℕ} → d ≡ int_wrapping_div w (to_z w (of_z w s)) (to_z w (of_z w t)) → r ≡ of_z w (to_z w (of_z w d)) → r ≡ low (bits w) (quot_z (signed (hbits w) a) (signed (hbits w) b))
     quotient D R = let q = quot_z (signed (hbits w) a) (signed (hbits w) b) in

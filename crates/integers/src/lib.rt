@@ -11,5 +11,5 @@ mod words;
 
 pub use integer::Integer;
 pub use narrow::{extended8, extended16, i2b, i2c, i2l, i2s, l2i};
-pub use order::{cmpeq, cmpne, icmple, icmplt, lcmp};
+pub use order::{cmpeq, cmpne, icmple, icmplt, lcmp, order_number};
 pub use words::{high_word, join_words, low_word};

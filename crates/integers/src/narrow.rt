@@ -1,5 +1,6 @@
 // Ints and longs cut and extended (JVMS 2.11.4). The machine's signed types extend a number with its sign.
 // A byte and a short have functions of their own: each is a line, which a trait with two impls would not make plainer.
+// `as` where a word is cut: the `%` keeps the number in range, and TryFrom would give a Result that cannot fail.
 #![tactic(auto, using(values::proofs::LowBits::low_signed, values::proofs::Integers::low_plus))]
 
 ghost use Rattle.std.specs.Prelude.{◌≡◌};

@@ -1,24 +1,31 @@
 // Ints, longs and words compared (JVMS 2.11.3, 2.11.7).
 #![tactic(auto, using(crate::proofs::Comparison::signed_eq, crate::proofs::Comparison::le_is), unfolding(crate::specs::Widths::number, crate::specs::Widths::low_bits, values::specs::Integers::low))]
 
-ghost use Rattle.std.specs.Prelude.{◌≡◌, not, ◌==◌};
+ghost use Rattle.std.specs.Prelude.{◌≡◌, not, ◌==◌, pos};
+ghost use Rattle.std.specs.Ordering.{match_ordering};
 ghost use Rattle.values.specs.Kinds.{int, long};
-ghost use Rattle.values.specs.Integers.{order, ◌=ᶻ◌, ◌<ᶻ◌, ◌≤ᶻ◌};
+ghost use Rattle.values.specs.Integers.{−1, order, ◌=ᶻ◌, ◌<ᶻ◌, ◌≤ᶻ◌};
 ghost use Rattle.values.specs.Words.{bits, meaning};
 
 use crate::integer::Integer;
+use std::cmp::Ordering;
+
+// -1, 0 or 1 as an order is less, equal or greater.
+pub fn order_number(order: Ordering) -> u32
+    ensures { result ≡ bits int (match_ordering order −1 (pos 0) (pos 1)) }
+{
+    match order {
+        Ordering::Less => 0xffff_ffff,
+        Ordering::Equal => 0,
+        Ordering::Greater => 1,
+    }
+}
 
 // LCMP: -1, 0 or 1 as a is less than b, equal or greater.
 pub fn lcmp(a: u64, b: u64) -> u32
     ensures { result ≡ bits int (order (meaning long a) (meaning long b)) }
 {
-    if a.less(b) {
-        0xffff_ffff
-    } else if b.less(a) {
-        1
-    } else {
-        0
-    }
+    order_number(a.cast_signed().cmp(&b.cast_signed()))
 }
 
 // IF_ICMPEQ and IF_ACMPEQ, and IFEQ and IFNULL with 0 for b: the same int, which is the same word.

@@ -1,4 +1,5 @@
 // A long's or a double's bits as two words, low word first (IVal::from_long and IVal::as_long of the Rust).
+// `as` where a word is cut: `%` and `>>` keep the number in range, and TryFrom would give a Result that cannot fail.
 ghost use Rattle.std.specs.Prelude.{◌≡◌, [], ◌∷◌, slice_index};
 ghost use Rattle.values.specs.Kinds.{long};
 ghost use Rattle.values.specs.Words.{value_at, words_of};

@@ -2,5 +2,5 @@
 use Rattle.floats.proofs.UnitWords.{moved_on}
 use Rattle.floats.proofs.remainder.moved_remainder.Goals as goal
 
-pub loop-i-preserved : goal.loop-i-preserved
-loop-i-preserved c = moved_on c.args.m c.args.n c.loop-i.i c.loop-i.rest c.loop-i.invariant
+pub loop-preserved : goal.loop-preserved
+loop-preserved c = moved_on c.args.m c.args.n c.loop.counter c.loop.rest c.loop.invariant
