@@ -86,10 +86,7 @@ fn arithmetic_effect(op: u8, constant: u32, a: u32, b: u32, c: u32, d: u32) -> E
 fn is_return(op: u8) -> bool
     ensures { result ≡ is_return op }
 {
-    if op < IRETURN {
-        return false;
-    }
-    op <= RETURN
+    matches!(op, IRETURN..=RETURN)
 }
 
 // Branches, switches, returns and WIDE: the opcodes from IFEQ on.

@@ -14,11 +14,7 @@ pub(crate) fn move_effect(op: u8, a: u32, b: u32) -> Effect
     ensures { (constant c d : ℕ) → result ≡ effect_at op constant a b c d }
 {
     match op {
-        LDC => one(a), // and LDC_W
-        LDC2_W => two(a, b),
-        ILOAD => one(a), // the loads of one word
-        LLOAD => two(a, b), // the loads of two words
-        ISTORE => one(a), // the stores of one word
-        _ => two(a, b), // the stores of two words
+        LDC | ILOAD | ISTORE => one(a), // LDC_W too, and each load and store of one word
+        _ => two(a, b), // LDC2_W, and the loads and stores of two words
     }
 }

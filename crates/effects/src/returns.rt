@@ -16,12 +16,12 @@ pub(crate) fn return_effect(op: u8, a: u32, b: u32) -> Effect
     ensures { (constant c d : ℕ) → result ≡ effect_at op constant a b c d }
 {
     let x = join_words(a, b);
-    match op {
-        IRETURN => Effect::Return(Value::Int(a)),
-        LRETURN => Effect::Return(Value::Long(x)),
-        FRETURN => Effect::Return(Value::Float(a)),
-        DRETURN => Effect::Return(Value::Double(x)),
-        ARETURN => Effect::Return(Value::Reference(a)),
-        _ => Effect::Return(Value::Void), // RETURN
-    }
+    Effect::Return(match op {
+        IRETURN => Value::Int(a),
+        LRETURN => Value::Long(x),
+        FRETURN => Value::Float(a),
+        DRETURN => Value::Double(x),
+        ARETURN => Value::Reference(a),
+        _ => Value::Void, // RETURN
+    })
 }

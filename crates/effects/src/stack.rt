@@ -14,8 +14,7 @@ pub(crate) fn stack_effect(op: u8, a: u32, b: u32, c: u32, d: u32) -> Effect
     ensures { (constant : ℕ) → result ≡ effect_at op constant a b c d }
 {
     match op {
-        POP => nothing(),
-        POP2 => nothing(),
+        POP | POP2 => nothing(),
         DUP => two(a, a),
         DUP_X1 => words(b, a, b, 0, 0, 0),
         DUP_X2 => words(c, a, b, c, 0, 0),

@@ -33,8 +33,7 @@ fn advance_plain(method: &Method, slots: &mut [u32], s: State, taken: u64, most:
     let own = *method;
     let mut t = s;
     let mut steps = taken;
-    // two ends, each with a value of its own: made once before both, a step took 126.9 machine instructions and not 124.8, and joined in one arm, with the last step
-    // in its guard, 159.3 and not 156.5
+    // two ends, each with a value of its own: tried: made once before both, a step took 126.9 machine instructions and not 124.8
     loop {
         let decision = decide_framed(&own, slots, t);
         let Ok(u) = decision else {

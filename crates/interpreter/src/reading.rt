@@ -1,7 +1,7 @@
 // The words that an instruction works on: in the pool, in its local, or on the operand stack.
 ghost use Rattle.std.specs.Prelude.{◌≡◌, get_or};
 ghost use Rattle.rules.specs.Lent.{lent, plain};
-ghost use Rattle.interpreter.specs.Stages.{four_at, from_pool, reads_local, read_of};
+ghost use Rattle.interpreter.specs.Stages.{four, four_at, reads_local, read_of};
 
 use crate::instruction::Instruction;
 use const_pool::{Constant, Width, load_constant};
@@ -37,16 +37,15 @@ fn four_at(slots: &[u32], place: u32) -> Four
 }
 
 // The words of a constant.
-fn from_pool(asked: Result<Constant, Refusal>) -> Result<Four, Refusal>
-    ensures { result ≡ from_pool asked }
+fn constant_words(constant: Constant) -> Four
+    ensures { result ≡ four constant.low constant.high 0 0 }
 {
-    let constant = asked?;
-    Ok(Four {
+    Four {
         a: constant.low,
         b: constant.high,
         c: 0,
         d: 0,
-    })
+    }
 }
 
 // Whether a shared opcode reads its local: the loads and IINC.
@@ -65,8 +64,8 @@ impl Instruction<'_> {
         let method = self.method;
         let index = self.located.index;
         match self.located.op {
-            LDC => from_pool(load_constant(method, index, Width::One)),
-            LDC2_W => from_pool(load_constant(method, index, Width::Two)),
+            LDC => Ok(constant_words(load_constant(method, index, Width::One)?)),
+            LDC2_W => Ok(constant_words(load_constant(method, index, Width::Two)?)),
             // a guard: tried: with the three as an or-pattern a step took 127.1 machine instructions and not 124.8
             op if reads_local(op) => Ok(four_at(slots, index)),
             _ => Ok(four_at(slots, self.located.base)),
