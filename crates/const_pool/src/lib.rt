@@ -7,7 +7,7 @@ ghost use Rattle.rules.specs.Questions.{tagged};
 ghost use Rattle.const_pool.specs.Constant.{constant_of, first_kind, second_kind};
 
 use rules::tags::*;
-use rules::{Method, Refusal};
+use rules::{Method, Refusal, get_or};
 
 // How many words a constant has that an instruction loads: one is an int's or a float's (LDC and LDC_W), two are a long's or a double's (LDC2_W).
 #[derive(Clone, Copy)]
@@ -53,10 +53,10 @@ pub fn load_constant(method: &Method, index: u32, width: Width) -> Result<Consta
     if method.kinds.len() < at + width.places() || !width.has(method.kinds[at]) {
         return Err(Refusal::Constant);
     }
-    let low = method.words.get(at).copied().unwrap_or(0);
+    let low = get_or(method.words, at, 0);
     let high = match width {
         Width::One => 0,
-        Width::Two => method.words.get(at + 1).copied().unwrap_or(0),
+        Width::Two => get_or(method.words, at + 1, 0),
     };
     Ok(Constant { low, high })
 }

@@ -3,8 +3,7 @@ ghost use Rattle.std.specs.Prelude.{ℕ, ◌≡◌, List, length};
 ghost use Rattle.rules.specs.Lent.{lent, with_handlers};
 ghost use Rattle.rules.specs.Questions.{frame_check};
 
-use crate::slots::frame_size;
-use rules::{Method, Refusal, State};
+use rules::{Method, Refusal, State, frame_size};
 
 // The most entries of a pool, and the most bytes of a code (JVMS 4.1, 4.7.3).
 const MAX_POOL: usize = 65536;
@@ -17,7 +16,8 @@ pub fn check_frame(method: &Method, slots: &[u32], s: State) -> Result<(), Refus
 {
     let code = method.code;
     let kinds = method.kinds;
-    if kinds.len() != method.words.len() || kinds.len() > MAX_POOL || slots.len() < frame_size(s) {
+    let size = frame_size(s.max_locals, s.max_stack);
+    if kinds.len() != method.words.len() || kinds.len() > MAX_POOL || slots.len() < size {
         return Err(Refusal::Lengths);
     }
     if code.is_empty() || code.len() > MAX_CODE || code.len() <= s.pc as usize {

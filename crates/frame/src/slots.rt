@@ -1,18 +1,10 @@
 // The slots of a frame: the locals, and after them the operand stack.
 ghost use Rattle.std.specs.Prelude.{◌≡◌};
-ghost use Rattle.rules.specs.Questions.{frame_size};
 ghost use Rattle.rules.specs.Step.{written};
 ghost use Rattle.frame.specs.Writable.{Writable};
 
 use crate::words::write_update;
-use rules::{State, Update};
-
-// How many slots a frame has.
-pub(crate) fn frame_size(s: State) -> usize
-    ensures { result ≡ frame_size s }
-{
-    usize::from(s.max_locals) + usize::from(s.max_stack)
-}
+use rules::{State, Update, frame_size};
 
 // Writes an ordinary step's words: into the locals, or else into the stack. The stack is lent on as a part (a rule of the project), so that what writes on it can
 // reach no local, nor a slot past the frame.
@@ -26,5 +18,5 @@ pub fn commit(slots: &mut [u32], s: State, u: Update)
         write_update(slots, first, u);
         return;
     }
-    write_update(&mut slots[locals..frame_size(s)], first - locals, u);
+    write_update(&mut slots[locals..frame_size(s.max_locals, s.max_stack)], first - locals, u);
 }

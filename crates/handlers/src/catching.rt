@@ -21,11 +21,7 @@ fn catch_at(code: &[u8], s: State, handler: u16) -> Decision
         first: u32::from(s.max_locals),
         many: 1,
         w0: 1,
-        w1: 0,
-        w2: 0,
-        w3: 0,
-        w4: 0,
-        w5: 0,
+        ..Update::default()
     })
 }
 

@@ -5,7 +5,7 @@ ghost use Rattle.std.specs.Prelude.{◌≡◌};
 ghost use Rattle.rules.specs.Handlers.{covers, takes, catches, handler_at};
 
 use operands::read_code_u16;
-use rules::Method;
+use rules::{Method, get_or};
 use rules::tags::CONSTANT_CLASS;
 
 // The bytes of an entry: an EX record of the sheet, whose mark and length are not looked at (JVMS 4.7.3).
@@ -36,8 +36,8 @@ fn is_taken(method: &Method, catch_type: u16) -> bool
     ensures { result ≡ takes method.now.kinds.now method.now.words.now catch_type }
 {
     let index = usize::from(catch_type);
-    let kind = method.kinds.get(index).copied().unwrap_or(0);
-    let word = method.words.get(index).copied().unwrap_or(0);
+    let kind = get_or(method.kinds, index, 0);
+    let word = get_or(method.words, index, 0);
     catch_type == 0 || (kind == CONSTANT_CLASS && word == 1)
 }
 

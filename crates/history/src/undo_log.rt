@@ -8,7 +8,7 @@ ghost use Rattle.history.specs.Left.{entry_of, taken_back};
 
 use frame::write_words;
 use interpreter::moved;
-use rules::{State, Update};
+use rules::{State, Update, frame_size};
 
 // The words of an entry: offset, depth, first place, how many, and six old words.
 const ENTRY: usize = 10;
@@ -75,9 +75,8 @@ pub(crate) fn is_sound(code: &[u8], log: &[u32], s: State, n: u64) -> bool
     if code.len() <= entry.pc as usize || entry.depth > u32::from(s.max_stack) || entry.many > 6 {
         return false;
     }
-    entry.many == 0
-        || u64::from(entry.first) + u64::from(entry.many)
-            <= u64::from(s.max_locals) + u64::from(s.max_stack)
+    let size = frame_size(s.max_locals, s.max_stack) as u64;
+    entry.many == 0 || u64::from(entry.first) + u64::from(entry.many) <= size
 }
 
 // Takes the last step back by its entry: the old words, the offset and the depth. Where it has no places its first place is not looked at.

@@ -23,19 +23,23 @@ format_of table = Format.Table
 format_of pairs = Format.Pairs
 format_of widened = Format.Widened
 
--- the length in bytes; 0 marks a switch and 254 WIDE
+-- the format of the rules that is read so; a branch has the length of a constant of 16 bits
+abbrev pub form_of : Format → Forms.Format
+form_of Format.Alone = alone
+form_of (Format.Implied n) = implied n
+form_of Format.Byte = byte
+form_of Format.Short = short
+form_of Format.Index = index
+form_of Format.Index2 = index2
+form_of Format.IndexConst = index_const
+form_of Format.Branch4 = branch4
+form_of Format.Table = table
+form_of Format.Pairs = pairs
+form_of Format.Widened = widened
+
+-- the length in bytes, as the page of opcodes has it
 abbrev pub length_in : Format → ℕ
-length_in Format.Alone = 1
-length_in (Format.Implied n) = 1
-length_in Format.Byte = 2
-length_in Format.Short = 3
-length_in Format.Index = 2
-length_in Format.Index2 = 3
-length_in Format.IndexConst = 3
-length_in Format.Branch4 = 5
-length_in Format.Table = 0
-length_in Format.Pairs = 0
-length_in Format.Widened = 254
+length_in f = Forms.length_of (form_of f)
 
 abbrev pub between : ℕ → ℕ → ℕ → Bool
 between a b n = leb a n && leb n b

@@ -5,12 +5,13 @@ ghost use Rattle.values.specs.Words.{bits};
 ghost use Rattle.rules.specs.Fetch.{u8, u16, u32, s8, s16};
 
 use integers::{extended8, extended16};
+use rules::get_or;
 
 // The byte at an offset.
 pub fn read_code_u8(code: &[u8], at: usize) -> u8
     ensures { result ≡ u8 code.now at }
 {
-    code.get(at).copied().unwrap_or(0)
+    get_or(code, at, 0)
 }
 
 // Two bytes, the high one first.

@@ -2,19 +2,23 @@
 #![tactic(auto)]
 
 pub mod descriptors;
+mod frames;
 mod halts;
 pub mod letters;
 mod methods;
 mod refusals;
 mod sheets;
+mod slices;
 mod states;
 pub mod tags;
 mod updates;
 
+pub use frames::frame_size;
 pub use halts::{Decision, End, Halt, Pressed};
 pub use methods::Method;
 pub use refusals::Refusal;
 pub use sheets::{Loaded, Mark, Reading};
+pub use slices::get_or;
 pub use states::State;
 pub use updates::Update;
 

@@ -1,6 +1,6 @@
 // A method as it is lent.
 
-// Its code, the constant pool as kinds and words, and its handlers. No call writes them.
+// Its code, the constant pool as kinds and words, and its handlers. No call writes them. Kinds and words apart, of lengths that question 1 compares: C lends them so.
 #[derive(Clone, Copy)]
 pub struct Method<'a> {
     pub code: &'a [u8],

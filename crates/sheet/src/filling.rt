@@ -6,7 +6,7 @@ ghost use Rattle.sheet.specs.Records.{with_constants};
 
 use crate::records::{Record, Records};
 use operands::read_code_u32;
-use rules::Reading;
+use rules::{Reading, frame_size};
 
 // A value at an index, if there is such a place.
 fn put<T: Copy>(target: &mut [T], index: usize, value: T)
@@ -73,7 +73,7 @@ pub(crate) fn fill_slots(sheet: &[u8], p: Reading, slots: &mut [u32])
     requires { (p.arguments + 4 * p.argument_count ≤ length sheet.now) × (p.argument_count ≤ p.max_locals) × (p.max_locals + p.max_stack ≤ length slots.old) }
     ensures { slots.new ≡ loaded_slots sheet.now p slots.old }
 {
-    let end = usize::from(p.max_locals) + usize::from(p.max_stack);
+    let end = frame_size(p.max_locals, p.max_stack);
     write_arguments(sheet, p.arguments, &mut slots[..p.argument_count]);
     slots[p.argument_count..end].fill(0);
 }

@@ -6,19 +6,19 @@ ghost use Rattle.rules.specs.Step.{core_machine};
 ghost use Rattle.interpreter.specs.Taken.{ran};
 
 use interpreter::{Ran, decide, run, step};
-use rules::{Method, State};
+use rules::{Method, State, get_or};
 use std::io;
 
 // Prints the line of an ordinary step: the steps before it, and the offset, the opcode, the depth and the word on top where it begins.
 fn print_step(rt: &impl Print, steps: u64, code: &[u8], slots: &[u32], s: State) -> io::Result<()> {
     // `usize` has no `From<u32>`, here and for the depth
-    let opcode = code.get(s.pc as usize).copied().unwrap_or(0);
+    let opcode = get_or(code, s.pc as usize, 0);
     print!(rt; "{steps} {} {opcode} {}", s.pc, s.depth)?;
     if s.depth == 0 {
         return println!(rt; " -");
     }
     let place = usize::from(s.max_locals) + s.depth as usize - 1;
-    let top = slots.get(place).copied().unwrap_or(0);
+    let top = get_or(slots, place, 0);
     println!(rt; " {top:08X}")
 }
 
