@@ -18,5 +18,9 @@ pub fn commit(slots: &mut [u32], s: State, u: Update)
         write_update(slots, first, u);
         return;
     }
-    write_update(&mut slots[locals..frame_size(s.max_locals, s.max_stack)], first - locals, u);
+    write_update(
+        &mut slots[locals..frame_size(s.max_locals, s.max_stack)],
+        first - locals,
+        u,
+    );
 }

@@ -5,8 +5,8 @@ ghost use Rattle.std.specs.Prelude.{◌≡◌};
 ghost use Rattle.rules.specs.Handlers.{covers, takes, catches, handler_at};
 
 use operands::read_code_u16;
-use rules::{Method, get_or};
 use rules::tags::CONSTANT_CLASS;
+use rules::{Method, get_or};
 
 // The bytes of an entry: an EX record of the sheet, whose mark and length are not looked at (JVMS 4.7.3).
 const ENTRY: usize = 12;

@@ -1,5 +1,5 @@
 // The words that an instruction works on: in the pool, in its local, or on the operand stack.
-ghost use Rattle.std.specs.Prelude.{◌≡◌, get_or};
+ghost use Rattle.std.specs.Prelude.{◌≡◌};
 ghost use Rattle.rules.specs.Lent.{lent, plain};
 ghost use Rattle.interpreter.specs.Stages.{four, four_at, reads_local, read_of};
 
@@ -7,14 +7,7 @@ use crate::instruction::Instruction;
 use const_pool::{Constant, Width, load_constant};
 use effects::Four;
 use instructions::opcodes::*;
-use rules::Refusal;
-
-// The word at a place, and 0 past the end.
-fn word_at(slots: &[u32], place: usize) -> u32
-    ensures { result ≡ get_or slots.now place 0 }
-{
-    slots.get(place).copied().unwrap_or(0)
-}
+use rules::{Refusal, get_or};
 
 // Four words from a place on: nearly always all are there.
 fn four_at(slots: &[u32], place: u32) -> Four
@@ -29,10 +22,10 @@ fn four_at(slots: &[u32], place: u32) -> Four
             d: slots[at + 3],
         };
     }
-    let a = word_at(slots, at);
-    let b = word_at(slots, at + 1);
-    let c = word_at(slots, at + 2);
-    let d = word_at(slots, at + 3);
+    let a = get_or(slots, at, 0);
+    let b = get_or(slots, at + 1, 0);
+    let c = get_or(slots, at + 2, 0);
+    let d = get_or(slots, at + 3, 0);
     Four { a, b, c, d }
 }
 

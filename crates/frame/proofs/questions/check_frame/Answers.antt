@@ -8,7 +8,7 @@ use Rattle.rules.specs.Questions.{frame_size}
 use Rattle.rules.proofs.Questions.{unpaired, long_pool, no_room, no_code, long_code, outside, too_deep, frame_passed}
 use Rattle.frame.proofs.questions.check_frame.Goals as goal
 use Rattle.frame.proofs.questions.check_frame.Goals.{then-is_empty-via-then-is_empty, then-is_empty-via-else-is_empty+then-code-gt-MAX_CODE, then-is_empty-via-else-is_empty+else-code-gt-MAX_CODE+then-code-s}
-use Rattle.frame.proofs.questions.check_frame.Goals.{then-kinds-method-via-then-kinds-method, then-kinds-method-via-else-kinds-method+then-kinds-gt-MAX_POOL, then-kinds-method-via-else-kinds-method+else-kinds-gt-MAX_POOL+then-slots-frame_size}
+use Rattle.frame.proofs.questions.check_frame.Goals.{then-kinds-method-via-then-kinds-method, then-kinds-method-via-else-kinds-method+then-kinds-gt-MAX_POOL, then-kinds-method-via-else-kinds-method+else-kinds-gt-MAX_POOL+then-slots-size}
 
 pub returns-then-kinds-method : goal.returns-then-kinds-method
 returns-then-kinds-method c = λ _.
@@ -16,7 +16,7 @@ returns-then-kinds-method c = λ _.
     elim c.then-kinds-method.branch [
       | then-kinds-method-via-then-kinds-method w ↦ sym (unpaired _ _ _ w.if-kinds-method.true)
       | then-kinds-method-via-else-kinds-method+then-kinds-gt-MAX_POOL w ↦ sym (long_pool _ _ _ w.if-kinds-method.false w.if-kinds-gt-MAX_POOL.true)
-      | then-kinds-method-via-else-kinds-method+else-kinds-gt-MAX_POOL+then-slots-frame_size w ↦ let short : length a.slots.now < frame_size a.s = omega arith in
+      | then-kinds-method-via-else-kinds-method+else-kinds-gt-MAX_POOL+then-slots-size w ↦ let short : length a.slots.now < frame_size a.s = omega arith in
           sym (no_room _ _ _ w.if-kinds-method.false w.if-kinds-gt-MAX_POOL.false short)
     ]
 
