@@ -19,5 +19,5 @@ returns-then-entry-eq0 c = rw (eq-eqb _ _ c.if-entry-eq0.true) (no_places _ _ _ 
 
 pub returns-else-entry-eq0 : goal.returns-else-entry-eq0
 returns-else-entry-eq0 c =
-    rw (c.from-else-entry-eq0.ensures, c.from-else-entry-eq0-2.ensures, c.from-else-entry-eq0-3.ensures, c.from-else-entry-eq0-4.ensures)
+    rw (c.from-else-entry-eq0.ensures, c.from-else-entry-eq0-2.ensures, c.frame_size-size.ensures)
     (some_places _ _ _ c.read_entry-entry.ensures _ c.args.s c.if-code-entry.false (omega arith) c.if-entry-gt6.false c.if-entry-eq0.false)
