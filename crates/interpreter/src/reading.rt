@@ -66,7 +66,7 @@ impl Instruction<'_> {
         match self.located.op {
             LDC => Ok(constant_words(load_constant(method, index, Width::One)?)),
             LDC2_W => Ok(constant_words(load_constant(method, index, Width::Two)?)),
-            // a guard: tried: with the three as an or-pattern a step took 127.1 machine instructions and not 124.8
+            // A guard. With the three as an or-pattern it was tried, and a step took 125.1 machine instructions and not 120.8.
             op if reads_local(op) => Ok(four_at(slots, index)),
             _ => Ok(four_at(slots, self.located.base)),
         }
