@@ -16,7 +16,7 @@ fn word_at(slots: &[u32], place: usize) -> u32
     slots.get(place).copied().unwrap_or(0)
 }
 
-// Four words from a place on. Nearly always all are there: with `word_at` alone a step took 140.1 machine instructions and not 120.8.
+// Four words from a place on. Nearly always all are there. With each read by itself a step took 140.1 machine instructions and not 120.8.
 fn four_at(slots: &[u32], place: u32) -> Four
     ensures { result ≡ four_at slots.now place }
 {
