@@ -26,7 +26,7 @@ use Rattle.frame.specs.declared.places.Placed.{Placed}
 use Rattle.frame.specs.Place.{place_of}
 use Rattle.frame.proofs.Needs.{Says, place_says}
 use Rattle.return_types.specs.Settled.{settled}
-use Rattle.interpreter.specs.Stages.{reach, located_of, located_decision}
+use Rattle.interpreter.specs.Stages.{located_of, located_decision}
 use Rattle.interpreter.proofs.Decision.{listed}
 use Rattle.interpreter.proofs.Sources.{located_decides}
 use Rattle.std.specs.Prelude.{Ok, Err}
@@ -97,11 +97,11 @@ module _ (l : Method) (s : State) (slots : List ℕ) (framed : frame_check l s (
 -- ---- question 10
 
 -- a target is no further than the code reaches
-pub target_reach : (code : List ℕ) (z : ℤ) (t : Check ℕ) → t ≡ inside code z → length code ≤ 65535 → reach t ≤ 65535
+pub target_small : (code : List ℕ) (z : ℤ) (n : ℕ) → inside code z ≡ Ok n → length code ≤ 65535 → n ≤ 65535
 unfolding ◌else◌ ◌>>◌
-target_reach code (negsuc m) t e short = rw e (omega arith)
-target_reach code (pos m) t e short = rw e (go (ltb m (length code)) refl)
+target_small code (negsuc m) n e short = absurd (cc)
+target_small code (pos m) n e short = go (ltb m (length code)) refl e
   where
-    go : (b : Bool) → ltb m (length code) ≡ b → reach ((b else Refusal.Target) >> Ok m) ≤ 65535
-    go true h = omega (arith, ltb-true m (length code) h)
-    go false h = omega arith
+    go : (b : Bool) → ltb m (length code) ≡ b → ((b else Refusal.Target) >> Ok m) ≡ Ok n → n ≤ 65535
+    go true h e = let same = ok_same e in omega (arith, ltb-true m (length code) h)
+    go false h e = absurd (cc)

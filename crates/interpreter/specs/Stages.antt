@@ -5,6 +5,7 @@ use Rattle.values.specs.Kinds.{int, long, float, double}
 use Rattle.values.specs.Words.{meaning}
 use Rattle.rules.specs.declared.states.State.{State}
 use Rattle.rules.specs.Questions.{Method}
+use Rattle.rules.specs.declared.updates.Update.{Update}
 use Rattle.rules.specs.Check.{Check}
 use Rattle.effects.specs.declared.outcome.Six.{Six}
 use Rattle.effects.specs.declared.four.Four.{Four}
@@ -63,16 +64,15 @@ located_of entry index constant next base depth =
       many = cond (stores_to entry.shared) entry.locals entry.pushes;
     }
 
--- the place of a target, if it has one
-abbrev pub reach : Check ℕ → ℕ
-reach (Ok n) = n
-reach (Err r) = 0
+-- an ordinary step to an offset
+abbrev pub ordinary_to : ℕ → ℕ → ℕ → ℕ → Six → Update
+ordinary_to pc depth first many w =
+    record { pc = pc; depth = depth; first = first_place first many; many = many; w0 = w.w0; w1 = w.w1; w2 = w.w2; w3 = w.w3; w4 = w.w4; w5 = w.w5 }
 
 -- by the answer to question 10
-unfoldable pub ordinary_to : Check ℕ → ℕ → ℕ → ℕ → Six → Decision
-ordinary_to (Ok pc) depth first many w =
-    Ok (record { pc = pc; depth = depth; first = first_place first many; many = many; w0 = w.w0; w1 = w.w1; w2 = w.w2; w3 = w.w3; w4 = w.w4; w5 = w.w5 })
-ordinary_to (Err r) depth first many w = Err (Refused r)
+abbrev pub ordinary_by : Check ℕ → ℕ → ℕ → ℕ → Six → Decision
+ordinary_by (Ok pc) depth first many w = Ok (ordinary_to pc depth first many w)
+ordinary_by (Err r) depth first many w = Err (Refused r)
 
 -- by how much a branch that is taken goes on: a switch by its key, any other by its constant
 unfoldable pub offset_at : List ℕ → ℕ → ℕ → ℕ → ℕ → ℤ
@@ -83,10 +83,10 @@ offset_at code pc op constant key =
 
 unfoldable pub branch_of : List ℕ → ℕ → Located → ℕ → Bool → Decision
 branch_of code pc i key taken =
-    ordinary_to (inside code (cond taken (pos pc +ℤ offset_at code pc i.op i.constant key) (pos i.next))) i.depth 0 0 (six [])
+    ordinary_by (inside code (cond taken (pos pc +ℤ offset_at code pc i.op i.constant key) (pos i.next))) i.depth 0 0 (six [])
 
 unfoldable pub finish_of : List ℕ → ℕ → Located → ℕ → Effect → Decision
-finish_of code pc i key (Effect.Words w) = ordinary_to (inside code (pos i.next)) i.depth i.first i.many w
+finish_of code pc i key (Effect.Words w) = ordinary_by (inside code (pos i.next)) i.depth i.first i.many w
 finish_of code pc i key Effect.Throw = Err Throw
 finish_of code pc i key (Effect.Branch taken) = branch_of code pc i key taken
 finish_of code pc i key (Effect.Return v) = Err (Return v)

@@ -3,7 +3,7 @@ ghost use Rattle.std.specs.Prelude.{◌≡◌, [], true, ◌≤◌};
 ghost use Rattle.values.specs.Kinds.{int};
 ghost use Rattle.values.specs.Words.{meaning};
 ghost use Rattle.rules.specs.Step.{first_place};
-ghost use Rattle.interpreter.specs.Stages.{reach, offset_at, ordinary_to, branch_of, finish_of, stores_to, located_of};
+ghost use Rattle.interpreter.specs.Stages.{offset_at, ordinary_to, branch_of, finish_of, stores_to, located_of};
 
 use crate::instruction::Instruction;
 use effects::{Effect, Six};
@@ -11,7 +11,7 @@ use frame::Placed;
 use instructions::Decoded;
 use instructions::opcodes::*;
 use operands::{inside, jump_relative, lookup_offset, table_offset};
-use rules::{Decision, Halt, Refusal, Update};
+use rules::{Decision, Halt, Update};
 
 // An instruction that questions 4 to 8 have passed: its shared opcode, index and constant, the offset after it, its first place on
 // the stack, the new depth, and where its words go and how many.
@@ -67,14 +67,13 @@ fn first_place(first: u32, many: u32) -> u32
     if many == 0 { 0 } else { first }
 }
 
-// An ordinary step to a target, if it is in the code, with the first of some words written from a place on.
-fn ordinary_to(to: Result<usize, Refusal>, depth: u32, first: u32, many: u32, w: Six) -> Decision
-    requires { reach to ≤ 65535 }
+// An ordinary step to an offset, with the first of some words written from a place on.
+fn ordinary_to(to: usize, depth: u32, first: u32, many: u32, w: Six) -> Update
+    requires { to ≤ 65535 }
     ensures { result ≡ ordinary_to to depth first many w }
 {
-    let pc = to?;
-    Ok(Update {
-        pc: pc as u32,
+    Update {
+        pc: to as u32,
         depth,
         first: first_place(first, many),
         many,
@@ -84,7 +83,7 @@ fn ordinary_to(to: Result<usize, Refusal>, depth: u32, first: u32, many: u32, w:
         w3: w.w3,
         w4: w.w4,
         w5: w.w5,
-    })
+    }
 }
 
 impl Instruction<'_> {
@@ -106,8 +105,8 @@ impl Instruction<'_> {
     fn jump(&self, key: u32) -> Decision
         ensures { result ≡ branch_of self.now.method.now.code.now self.now.pc self.now.located key true }
     {
-        let to = jump_relative(self.method.code, self.pc, self.offset(key));
-        ordinary_to(to, self.located.depth, 0, 0, Six::default())
+        let to = jump_relative(self.method.code, self.pc, self.offset(key))?;
+        Ok(ordinary_to(to, self.located.depth, 0, 0, Six::default()))
     }
 
     // A branch, taken or not; `key` is the first word that it works on.
@@ -118,8 +117,8 @@ impl Instruction<'_> {
         if taken {
             return self.jump(key);
         }
-        let to = inside(self.method.code, self.located.next);
-        ordinary_to(to, self.located.depth, 0, 0, Six::default())
+        let to = inside(self.method.code, self.located.next)?;
+        Ok(ordinary_to(to, self.located.depth, 0, 0, Six::default()))
     }
 
     // What the step comes to, of what the instruction does; `key` is the first word that it works on.
@@ -130,8 +129,8 @@ impl Instruction<'_> {
         let i = self.located;
         match does {
             Effect::Words(w) => {
-                let to = inside(self.method.code, i.next);
-                ordinary_to(to, i.depth, i.first, i.many, w)
+                let to = inside(self.method.code, i.next)?;
+                Ok(ordinary_to(to, i.depth, i.first, i.many, w))
             }
             Effect::Throw => Err(Halt::Throw),
             Effect::Branch(taken) => self.branch(key, taken),

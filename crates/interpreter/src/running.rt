@@ -13,6 +13,7 @@ use return_types::settle;
 use rules::{Decision, End, Halt, Method, State};
 
 // The state that a run reached, how many ordinary steps it took, and what ended it.
+// It is not `Reached` with a parameter. That was tried and proved, in six lines more, and with one name for a decision before question 32 and for an end.
 #[derive(Clone, Copy)]
 pub struct Ran {
     pub state: State,

@@ -10,7 +10,7 @@ use frame::commit;
 use return_types::settle;
 use rules::{Decision, Method, State, Update};
 
-// The state after a step, and what the step came to.
+// The state after a step, and what the step came to. It is not `Reached`, whose steps would say again what the decision says: whether the step was taken.
 #[derive(Clone, Copy)]
 pub struct Stepped {
     pub state: State,

@@ -7,18 +7,18 @@ use Rattle.interpreter.proofs.advancing.advance_plain.Goals as goal
 
 pub returns-in_default : goal.returns-in_default
 returns-in_default c = let t = c.loop-u in
-    ends_there _ _ _ _ _ t.slots t.t t.steps t.invariant c.decide_framed-decision.result c.decide_framed-decision.ensures (_, c.in_default.is)
+    ends_there _ _ _ _ _ t.slots t.t t.steps t.invariant c.decide_framed.result c.decide_framed.ensures (_, c.in_default.is)
 
 pub returns-then-steps-most : goal.returns-then-steps-most
 returns-then-steps-most c = let t = c.loop-u in
-    all_taken _ _ _ _ _ t.slots t.t t.steps t.invariant c.if-steps-most.true _ (sym c.decide_framed-decision.ensures ∙ ap (settled _) c.in-Ok.is)
+    all_taken _ _ _ _ _ t.slots t.t t.steps t.invariant c.if-steps-most.true _ (sym c.decide_framed.ensures)
 
 pub take-t-requires : goal.take-t-requires
 take-t-requires c = let t = c.loop-u in
-    let k = ordinary_legal _ t.t t.slots _ (sym c.decide_framed-decision.ensures ∙ ap (settled _) c.in-Ok.is) in
+    let k = ordinary_legal _ t.t t.slots _ (sym c.decide_framed.ensures ∙ ap (settled _) c.in-Ok.is) in
     (k.few, k.within, k.frame_there.room)
 
 pub loop-u-preserved : goal.loop-u-preserved
 loop-u-preserved c = let t = c.loop-u in
     rw (c.take-t.ensures.state_after, c.take-t.ensures.slots_after)
-    (turn _ _ _ _ _ t.slots t.t t.steps t.invariant c.if-steps-most.false _ (sym c.decide_framed-decision.ensures ∙ ap (settled _) c.in-Ok.is))
+    (turn _ _ _ _ _ t.slots t.t t.steps t.invariant c.if-steps-most.false _ (sym c.decide_framed.ensures ∙ ap (settled _) c.in-Ok.is))

@@ -1,8 +1,8 @@
 -- `finish` meets its contract. Assumes nothing.
 use lib.IntN.{pos}
-use Rattle.interpreter.proofs.Answers.{target_reach}
+use mathlib.Core.Path.{sym, ◌∙◌}
+use Rattle.interpreter.proofs.Answers.{target_small}
 use Rattle.interpreter.proofs.instruction.Instruction.finish.Goals as goal
 
 pub ordinary_to-requires : goal.ordinary_to-requires
-ordinary_to-requires c = let i = c.args.self.now in
-    target_reach i.method.now.code.now (pos i.located.next) _ c.inside-to.ensures i.short
+ordinary_to-requires c = target_small _ (pos c.args.self.now.located.next) _ (sym c.inside.ensures ∙ c.in_ok-to-in-Words.was) c.args.self.now.short

@@ -1,10 +1,7 @@
 -- `jump` meets its contract. Assumes nothing.
-use lib.IntN.{pos, ◌+ℤ◌}
-use Rattle.values.specs.Kinds.{int}
-use Rattle.values.specs.Words.{meaning}
-use Rattle.interpreter.proofs.Answers.{target_reach}
+use mathlib.Core.Path.{sym, ◌∙◌}
+use Rattle.interpreter.proofs.Answers.{target_small}
 use Rattle.interpreter.proofs.instruction.Instruction.jump.Goals as goal
 
 pub ordinary_to-requires : goal.ordinary_to-requires
-ordinary_to-requires c = let i = c.args.self.now in
-    target_reach i.method.now.code.now (pos i.pc +ℤ meaning int c.offset.result) _ c.jump_relative-to.ensures i.short
+ordinary_to-requires c = target_small _ _ _ (sym c.jump_relative.ensures ∙ c.in_ok-to.was) c.args.self.now.short
