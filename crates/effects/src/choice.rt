@@ -2,7 +2,7 @@
 ghost use Rattle.std.specs.Prelude.{◌≡◌, true, ℕ, ◌≤◌, ◌<◌};
 ghost use Rattle.instructions.specs.Table.{is_in};
 ghost use Rattle.effects.specs.Effects.{effect_at};
-ghost use Rattle.effects.specs.Families.{shared_opcodes, arithmetic_kind, is_return};
+ghost use Rattle.effects.specs.Families.{shared_opcodes, arithmetic_kind};
 
 use crate::arithmetic::{integer_effect, operation_of};
 use crate::branches::branch_effect;
@@ -24,13 +24,11 @@ fn plain_effect(op: u8, constant: u32, a: u32, b: u32, c: u32, d: u32) -> Effect
     requires op_bound { op < 96 }
     ensures { result ≡ effect_at op constant a b c d }
 {
-    if op < LDC {
-        return constant_effect(op, constant);
+    match op {
+        NOP..=SIPUSH => constant_effect(op, constant),
+        LDC..=ASTORE_3 => move_effect(op, a, b),
+        _ => stack_effect(op, a, b, c, d),
     }
-    if op < POP {
-        return move_effect(op, a, b);
-    }
-    stack_effect(op, a, b, c, d)
 }
 
 // What an arithmetic opcode works on.
@@ -82,26 +80,18 @@ fn arithmetic_effect(op: u8, constant: u32, a: u32, b: u32, c: u32, d: u32) -> E
     }
 }
 
-// Whether an opcode from IFEQ on returns.
-fn is_return(op: u8) -> bool
-    ensures { result ≡ is_return op }
-{
-    matches!(op, IRETURN..=RETURN)
-}
-
 // Branches, switches, returns and WIDE: the opcodes from IFEQ on.
+#[tactic(auto, unfolding(crate::specs::Effects::effect_at, rules::specs::Instructions::row_of))]
 fn control_effect(op: u8, a: u32, b: u32) -> Effect
     requires op_value { is_in shared_opcodes op ≡ true }
     requires le_op { 153 ≤ op }
     ensures { (constant c d : ℕ) → result ≡ effect_at op constant a b c d }
 {
-    if op == WIDE {
-        return nothing();
+    match op {
+        WIDE => nothing(),
+        IRETURN..=RETURN => return_effect(op, a, b),
+        _ => branch_effect(op, a, b),
     }
-    if is_return(op) {
-        return return_effect(op, a, b);
-    }
-    branch_effect(op, a, b)
 }
 
 // What a shared opcode does with its constant and its words. The words are taken apart here: passed on as one, a step took 199.3 machine instructions and not 190.0.
