@@ -12,11 +12,12 @@ use crate::conversion::conversion_effect;
 use crate::float::float_effect;
 use crate::four::Four;
 use crate::moves::move_effect;
+use crate::on_stack::OnStack;
 use crate::outcome::{Effect, nothing, one};
 use crate::returns::return_effect;
 use crate::stack::stack_effect;
 use instructions::opcodes::*;
-use integers::{Integer, join_words};
+use integers::Integer;
 
 // Constants, moves and the stack: the opcodes before IADD.
 fn plain_effect(op: u8, constant: u32, a: u32, b: u32, c: u32, d: u32) -> Effect
@@ -71,8 +72,7 @@ fn arithmetic_effect(op: u8, constant: u32, a: u32, b: u32, c: u32, d: u32) -> E
         Numbers::Ints => integer_effect(operation_of(op), a, b, b),
         // The opcode for longs is the next one after that for ints.
         Numbers::Longs => {
-            let x = join_words(a, b);
-            let y = join_words(c, d);
+            let (x, y) = u64::popped(a, b, c, d);
             integer_effect(operation_of(op - 1), x, y, c)
         }
         Numbers::Floats => float_effect::<f32>(op, a, b, c, d),
