@@ -45,17 +45,12 @@ pub(crate) enum Numbers {
 fn arithmetic_kind(op: u8) -> Numbers
     ensures { result ≡ arithmetic_kind op }
 {
-    if op < ISHL {
-        match op % 4 {
-            0 => Numbers::Ints,
-            1 => Numbers::Longs,
-            2 => Numbers::Floats,
-            _ => Numbers::Doubles,
-        }
-    } else if op % 2 == 0 {
-        Numbers::Ints
-    } else {
-        Numbers::Longs
+    let kinds = if op < ISHL { 4 } else { 2 };
+    match op % kinds {
+        0 => Numbers::Ints,
+        1 => Numbers::Longs,
+        2 => Numbers::Floats,
+        _ => Numbers::Doubles,
     }
 }
 
@@ -65,6 +60,7 @@ fn arithmetic_effect(op: u8, constant: u32, a: u32, b: u32, c: u32, d: u32) -> E
     requires le_op { (96 ≤ op) × (op < 133) }
     ensures { result ≡ effect_at op constant a b c d }
 {
+    // tested here: tried: as an arm of `effect`, a step of the loop of longs and doubles took 130.4 machine instructions and not 129.1
     if op == IINC {
         return one(a.add(constant));
     }
@@ -103,6 +99,7 @@ pub fn effect(op: u8, constant: u32, w: Four) -> Effect
     ensures { result ≡ effect_at op constant w.a w.b w.c w.d }
 {
     let Four { a, b, c, d } = w;
+    // in five groups: tried: with an arm for each family, a step of the int loop took 163.8 machine instructions and not 121.5
     match op {
         NOP..=SWAP => plain_effect(op, constant, a, b, c, d),
         IADD..=IINC => arithmetic_effect(op, constant, a, b, c, d),

@@ -3,7 +3,8 @@ ghost use Rattle.std.specs.Prelude.{◌≡◌};
 ghost use Rattle.values.specs.Words.{words_of};
 ghost use Rattle.rules.specs.Forms.{pushes};
 ghost use Rattle.effects.specs.Effects.{effect_of};
-ghost use Rattle.effects.specs.Floats.{float_result, first_of, second_of};
+ghost use Rattle.effects.specs.Floats.{float_result};
+ghost use Rattle.effects.specs.OnStack.{first_of, second_of};
 
 use crate::on_stack::OnStack;
 use crate::outcome::Effect;

@@ -3,7 +3,7 @@ ghost use Rattle.std.specs.Prelude.{◌≡◌, refl};
 ghost use Rattle.values.specs.Words.{words_of};
 ghost use Rattle.rules.specs.Forms.{pushes};
 ghost use Rattle.effects.specs.Effects.{effect_of};
-ghost use Rattle.effects.specs.Floats.{first_of, second_of};
+ghost use Rattle.effects.specs.OnStack.{first_of, second_of};
 
 use crate::outcome::{Effect, one, split};
 use conversions::Word;
