@@ -1,24 +1,13 @@
--- An opcode's place in the families: which one is left in the last arm of a `match`, and which family an opcode is of. Assumes nothing.
+-- Which family a shared opcode is of. Assumes nothing.
 use Prim.Native.Nat.{ℕ, ◌≤◌, ◌<◌}
-use mathlib.Core.Path.{◌≡◌, refl}
-use mathlib.Core.Bool.{Bool, true, false, ◌&&◌, ◌||◌}
-use mathlib.Core.List.{List, [], ◌∷◌, map}
-use lib.Dec.{eqb, leb}
-use lib.ListN.{get_or, drop}
-use borrow.Author.Tests.{eqb-true, le-leb}
+use mathlib.Core.Path.{◌≡◌}
+use mathlib.Core.Bool.{Bool, true, false, ◌&&◌}
+use mathlib.Core.List.{List, map}
+use lib.Dec.{leb}
+use borrow.Author.Tests.{le-leb}
 use Rattle.rules.proofs.Rows.{up_to, agree}
 use Rattle.instructions.specs.Table.{is_in}
-use Rattle.instructions.proofs.Absent.{Absent, not_in}
 use Rattle.effects.specs.Families.{shared_opcodes}
-
--- an opcode of a family that is none of the others is the first of its list
-pub only_left : (ks : List ℕ) (x : ℕ) → is_in ks x ≡ true → Absent (drop 1 ks) x → x ≡ get_or ks 0 0
-only_left [] x e a = cc
-only_left (k ∷ ks) x e a = go (eqb x k) refl (rw (not_in ks x a) at e)
-  where
-    go : (t : Bool) → eqb x k ≡ t → t || false ≡ true → x ≡ k
-    go true p q = eqb-true x k p
-    go false p q = cc
 
 abbrev implies : Bool → Bool → Bool
 implies true y = y

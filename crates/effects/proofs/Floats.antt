@@ -10,7 +10,8 @@ use Rattle.rules.specs.Instructions.{row_of}
 use Rattle.instructions.specs.Table.{is_in}
 use Rattle.effects.specs.Effects.{effect_of, effect_at}
 use Rattle.effects.specs.Families.{float_opcodes, double_opcodes}
-use Rattle.effects.specs.Floats.{float_result, first_of, second_of}
+use Rattle.effects.specs.Floats.{float_result}
+use Rattle.effects.specs.OnStack.{first_of, second_of}
 
 -- what the opcode comes to is that result
 abbrev pub IsResult : Kind → Format → ℕ → ℕ → Type 0

@@ -1,5 +1,5 @@
 -- The families of the shared opcodes, each one function's, its last opcode first. Assumes nothing.
-use Rattle.std.specs.Prelude.{ℕ, ◌%◌, Bool, false, cond, List, [], ◌∷◌, map, drop, eqb, ltb, leb}
+use Rattle.std.specs.Prelude.{ℕ, ◌%◌, cond, List, [], ◌∷◌, map, drop, eqb, ltb}
 use Rattle.rules.specs.Instructions.{instructions}
 use Rattle.instructions.specs.Table.{shared_of}
 use Rattle.effects.specs.declared.choice.Numbers.{Numbers}
@@ -13,10 +13,6 @@ shared_opcodes = map shared_of instructions
 -- what an arithmetic opcode works on: ints, longs, floats and doubles take turns, and from ISHL on ints and longs alone
 abbrev pub arithmetic_kind : ℕ → Numbers
 arithmetic_kind n = cond (ltb n 120) (cond (eqb (n % 4) 0) Ints (cond (eqb (n % 4) 1) Longs (cond (eqb (n % 4) 2) Floats Doubles))) (cond (eqb (n % 2) 0) Ints Longs)
-
--- IRETURN to RETURN
-abbrev pub is_return : ℕ → Bool
-is_return n = cond (ltb n 172) false (leb n 177)
 
 -- ---- the families
 

@@ -1,10 +1,8 @@
 -- What an arithmetic opcode of floats or of doubles makes of its values, over the format. Assumes nothing.
-use Rattle.std.specs.Prelude.{ℕ, Bool, cond, ◌||◌, [], ◌∷◌, drop, eqb}
+use Rattle.std.specs.Prelude.{ℕ, Bool, cond, ◌||◌, eqb}
 use Rattle.std.specs.Float.{Format}
 use Rattle.std.specs.Float.Ieee.{add, sub, mul, div, rem, of_bits, to_bits}
-use Rattle.values.specs.Kinds.{Kind, places}
 use Rattle.values.specs.Integers.{flipped}
-use Rattle.values.specs.Words.{value_at}
 
 abbrev pub is_either : ℕ → ℕ → ℕ → Bool
 is_either n i j = eqb n i || eqb n j
@@ -18,10 +16,3 @@ float_result f h op x y =
     (cond (is_either op 110 111) (to_bits f (div f (of_bits f x) (of_bits f y)))
     (cond (is_either op 114 115) (to_bits f (rem f (of_bits f x) (of_bits f y)))
     (flipped h x)))))
-
--- the two values that an opcode works on, of its words
-abbrev pub first_of : Kind → ℕ → ℕ → ℕ → ℕ → ℕ
-first_of k a b c d = value_at k (a ∷ b ∷ c ∷ d ∷ [])
-
-abbrev pub second_of : Kind → ℕ → ℕ → ℕ → ℕ → ℕ
-second_of k a b c d = value_at k (drop (places k) (a ∷ b ∷ c ∷ d ∷ []))

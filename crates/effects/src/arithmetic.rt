@@ -7,7 +7,8 @@ ghost use Rattle.effects.specs.Effects.{effect_of};
 ghost use Rattle.effects.specs.Families.{shared_int_opcodes};
 ghost use Rattle.effects.specs.Operations.{operation_at, result_of};
 
-use crate::outcome::{Effect, Push};
+use crate::on_stack::OnStack;
+use crate::outcome::Effect;
 use instructions::opcodes::*;
 
 // Each by its mnemonics without the letter of the type.
@@ -49,7 +50,7 @@ pub(crate) fn operation_of(op: u8) -> Operation
 }
 
 // An operation on two ints or two longs; a division by 0 throws an ArithmeticException.
-pub(crate) fn integer_effect<T: Push>(operation: Operation, a: T, b: T, count: u32) -> Effect
+pub(crate) fn integer_effect<T: OnStack>(operation: Operation, a: T, b: T, count: u32) -> Effect
     ensures { result ≡ effect_of (result_of T.kind operation (T.word a) (T.word b) count) }
 {
     match operation {

@@ -4,10 +4,11 @@ ghost use Rattle.instructions.specs.Table.{is_in};
 ghost use Rattle.effects.specs.Effects.{effect_at};
 ghost use Rattle.effects.specs.Families.{comparison_opcodes};
 
+use crate::on_stack::OnStack;
 use crate::outcome::{Effect, one};
 use floats::compare;
 use instructions::opcodes::*;
-use integers::{join_words, lcmp};
+use integers::lcmp;
 use std::cmp::Ordering;
 
 // LCMP to DCMPG.
@@ -16,8 +17,7 @@ pub(crate) fn comparison_effect(op: u8, a: u32, b: u32, c: u32, d: u32) -> Effec
     requires { is_in comparison_opcodes op ≡ true }
     ensures { (constant : ℕ) → result ≡ effect_at op constant a b c d }
 {
-    let x = join_words(a, b);
-    let y = join_words(c, d);
+    let (x, y) = u64::popped(a, b, c, d);
     match op {
         LCMP => one(lcmp(x, y)),
         FCMPL => one(compare::<f32>(a, b, Ordering::Less)),

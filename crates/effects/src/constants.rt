@@ -15,20 +15,17 @@ pub(crate) fn constant_effect(op: u8, constant: u32) -> Effect
 {
     match op {
         NOP => nothing(),
-        ACONST_NULL => one(0),
+        ACONST_NULL | ICONST_0 | FCONST_0 => one(0),
         ICONST_M1 => one(0xffff_ffff),
-        ICONST_0 => one(0),
         ICONST_1 => one(1),
         ICONST_2 => one(2),
         ICONST_3 => one(3),
         ICONST_4 => one(4),
         ICONST_5 => one(5),
-        LCONST_0 => two(0, 0),
+        LCONST_0 | DCONST_0 => two(0, 0),
         LCONST_1 => two(1, 0),
-        FCONST_0 => one(0),
         FCONST_1 => one(0x3f80_0000),
         FCONST_2 => one(0x4000_0000),
-        DCONST_0 => two(0, 0),
         DCONST_1 => two(0, 0x3ff0_0000),
         _ => one(constant), // BIPUSH, SIPUSH
     }

@@ -10,6 +10,7 @@ mod conversion;
 mod float;
 mod four;
 mod moves;
+mod on_stack;
 mod outcome;
 mod returns;
 mod stack;

@@ -5,7 +5,7 @@ ghost use Rattle.values.specs.Words.{words_of};
 ghost use Rattle.rules.specs.Forms.{pushes};
 ghost use Rattle.effects.specs.Effects.{effect_of};
 
-use integers::{Integer, high_word, low_word};
+use integers::{high_word, low_word};
 use values::Value;
 
 // Up to six words, lowest first; those past the number that an instruction gives are 0. Named, and no array: rules/src/updates says why.
@@ -70,22 +70,4 @@ pub(crate) fn split(v: u64) -> Effect
     let low = low_word(v);
     let high = high_word(v);
     two(low, high)
-}
-
-// A number as the words that it takes on the operand stack.
-pub(crate) trait Push: Integer {
-    fn push(self) -> Effect
-        ensures { result ≡ effect_of (pushes (words_of Self.kind (Self.word self))) };
-}
-
-impl Push for u32 {
-    fn push(self) -> Effect {
-        one(self)
-    }
-}
-
-impl Push for u64 {
-    fn push(self) -> Effect {
-        split(self)
-    }
 }

@@ -20,7 +20,7 @@ returns-in-Ints c = let x = c.args in
 
 pub returns-in-Longs : goal.returns-in-Longs
 returns-in-Longs c = let x = c.args in
-    rw (c.join_words-x.ensures, c.join_words-y.ensures, c.operation_of-in-Longs.ensures) at c.integer_effect-in-Longs.ensures ∙ sym (long_row x.op x.constant x.a x.b x.c x.d (grind (arith, common_steps)))
+    rw (c.popped-x.ensures.first, c.popped-x.ensures.second, c.operation_of-in-Longs.ensures) at c.integer_effect-in-Longs.ensures ∙ sym (long_row x.op x.constant x.a x.b x.c x.d (grind (arith, common_steps)))
 
 pub returns-in-Floats : goal.returns-in-Floats
 returns-in-Floats c = let x = c.args in
