@@ -1,16 +1,12 @@
 -- What an instruction comes to, as the step takes it: of its result in the table. Assumes nothing.
-use Rattle.std.specs.Prelude.{ℕ, cond, List, [], ◌∷◌, eqb, get_or, Some, None, Option}
+use Rattle.std.specs.Prelude.{ℕ, cond, List, [], ◌∷◌, eqb, Some, None, Option}
 use Rattle.values.specs.Integers.{signed}
 use Rattle.rules.specs.Forms.{Row, Operand, Result, pushes, stores, divides, branches, returns}
 use Rattle.rules.specs.Fetch.{operands}
 use Rattle.rules.specs.Instructions.{row_of}
-use Rattle.effects.specs.declared.outcome.Six.{Six}
+use Rattle.rules.specs.Step.{six}
 use Rattle.effects.specs.declared.outcome.Effect.{Effect}
 use Rattle.effects.specs.declared.outcome.Effect.TheVariants.{Words, Throw, Branch, Return}
-
--- the first six of some words; those past their end are 0
-abbrev pub six : List ℕ → Six
-six ws = record { w0 = get_or ws 0 0; w1 = get_or ws 1 0; w2 = get_or ws 2 0; w3 = get_or ws 3 0; w4 = get_or ws 4 0; w5 = get_or ws 5 0 }
 
 abbrev pub effect_of : Result → Effect
 effect_of (pushes ws) = Words (six ws)

@@ -17,4 +17,4 @@ mod stack;
 
 pub use choice::effect;
 pub use four::Four;
-pub use outcome::{Effect, Six};
+pub use outcome::Effect;

@@ -6,18 +6,8 @@ ghost use Rattle.rules.specs.Forms.{pushes};
 ghost use Rattle.effects.specs.Effects.{effect_of};
 
 use integers::{high_word, low_word};
+use rules::Six;
 use values::Value;
-
-// Up to six words, lowest first; those past the number that an instruction gives are 0. Named, and no array: rules/src/updates says why.
-#[derive(Clone, Copy, Default)]
-pub struct Six {
-    pub w0: u32,
-    pub w1: u32,
-    pub w2: u32,
-    pub w3: u32,
-    pub w4: u32,
-    pub w5: u32,
-}
 
 // Words to push or to store, an ArithmeticException, whether a branch is taken, or a value to return.
 #[derive(Clone, Copy)]

@@ -18,12 +18,13 @@ fn write_several(target: &mut [u32], at: usize, u: Update)
     requires { (u.many ≤ 6) × (at + u.many ≤ length target.old) }
     ensures { target.new ≡ paste target.old at (update_words u) u.many }
 {
+    let w = u.words;
     if u.many == 2 {
-        target[at] = u.w0;
-        target[at + 1] = u.w1;
+        target[at] = w.w0;
+        target[at + 1] = w.w1;
         return;
     }
-    let words = [u.w0, u.w1, u.w2, u.w3, u.w4, u.w5];
+    let words = [w.w0, w.w1, w.w2, w.w3, w.w4, w.w5];
     write_words(target, at, &words[..u.many as usize]);
 }
 
@@ -34,7 +35,7 @@ pub(crate) fn write_update(target: &mut [u32], at: usize, u: Update)
     ensures { target.new ≡ paste target.old at (update_words u) u.many }
 {
     if u.many == 1 {
-        target[at] = u.w0;
+        target[at] = u.words.w0;
         return;
     }
     write_several(target, at, u);

@@ -5,7 +5,7 @@ ghost use Rattle.rules.specs.Step.{caught_at, thrown_at, decision};
 
 use crate::entries::find_handler;
 use operands::inside;
-use rules::{Decision, Halt, Method, Refusal, State, Update};
+use rules::{Decision, Halt, Method, Refusal, Six, State, Update};
 
 // The step to a handler, with questions 7 and 10: the exception is the only word on the stack.
 fn catch_at(code: &[u8], s: State, handler: u16) -> Decision
@@ -20,8 +20,10 @@ fn catch_at(code: &[u8], s: State, handler: u16) -> Decision
         depth: 1,
         first: u32::from(s.max_locals),
         many: 1,
-        w0: 1,
-        ..Update::default()
+        words: Six {
+            w0: 1,
+            ..Six::default()
+        },
     })
 }
 

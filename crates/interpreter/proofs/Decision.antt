@@ -16,7 +16,7 @@ use Rattle.rules.specs.Forms.{Rule, Operand, Result, offset_for, pushes, stores,
 use Rattle.rules.specs.Fetch.{Instruction, operands, fetched}
 use Rattle.rules.specs.Questions.{Method, popped, pushed, frame_check, needs_check}
 use Rattle.rules.specs.Handlers.{handler_from}
-use Rattle.rules.specs.Step.{frame, base, words_at, update, inside, ordinary, following, target, thrown_at, outcome, decision, decide_of}
+use Rattle.rules.specs.Step.{frame, base, words_at, six, update, inside, ordinary, following, target, thrown_at, outcome, decision, decide_of}
 use Rattle.rules.proofs.Rows.{works}
 use Rattle.rules.proofs.Fetched.{Sound}
 use Rattle.rules.proofs.Step.{result, decided}
@@ -24,7 +24,7 @@ use Rattle.operands.specs.Switch.{offset_in, table_offset, lookup_offset}
 use Rattle.instructions.specs.Table.{is_in, shared_of, core_entry}
 use Rattle.instructions.proofs.Entries.{core_entry_lem}
 use Rattle.effects.specs.declared.outcome.Effect.{Effect}
-use Rattle.effects.specs.Effects.{six, effect_of, effect_at}
+use Rattle.effects.specs.Effects.{effect_of, effect_at}
 use Rattle.effects.specs.Families.{shared_opcodes}
 use Rattle.effects.proofs.OwnRow.{own_effect_lem, shared_listed}
 use Rattle.frame.proofs.Needs.{Stands, pushed_in, locals_in_lem}

@@ -7,15 +7,15 @@ use Rattle.rules.specs.declared.states.State.{State}
 use Rattle.rules.specs.Questions.{Method}
 use Rattle.rules.specs.declared.updates.Update.{Update}
 use Rattle.rules.specs.Check.{Check}
-use Rattle.effects.specs.declared.outcome.Six.{Six}
+use Rattle.rules.specs.declared.updates.Six.{Six}
 use Rattle.effects.specs.declared.four.Four.{Four}
-use Rattle.rules.specs.Step.{first_place, inside, thrown_at, decision}
+use Rattle.rules.specs.Step.{first_place, six, inside, thrown_at, decision}
 use Rattle.operands.specs.Switch.{table_offset, lookup_offset}
 use Rattle.instructions.specs.declared.forms.Entry.{Entry}
 use Rattle.const_pool.specs.declared.Constant.{Constant}
 use Rattle.const_pool.specs.Constant.{constant_of}
 use Rattle.effects.specs.declared.outcome.Effect.{Effect}
-use Rattle.effects.specs.Effects.{six, effect_at}
+use Rattle.effects.specs.Effects.{effect_at}
 use Rattle.interpreter.specs.declared.finishing.Located.{Located}
 use Rattle.rules.specs.declared.halts.Halt.TheVariants.{Return, Throw, Refused}
 use Rattle.rules.specs.Decisions.{Decision}
@@ -66,8 +66,7 @@ located_of entry index constant next base depth =
 
 -- an ordinary step to an offset
 abbrev pub ordinary_to : ℕ → ℕ → ℕ → ℕ → Six → Update
-ordinary_to pc depth first many w =
-    record { pc = pc; depth = depth; first = first_place first many; many = many; w0 = w.w0; w1 = w.w1; w2 = w.w2; w3 = w.w3; w4 = w.w4; w5 = w.w5 }
+ordinary_to pc depth first many words = record { pc = pc; depth = depth; first = first_place first many; many = many; words = words }
 
 -- by the answer to question 10
 abbrev pub ordinary_by : Check ℕ → ℕ → ℕ → ℕ → Six → Decision

@@ -6,12 +6,12 @@ ghost use Rattle.rules.specs.Step.{first_place};
 ghost use Rattle.interpreter.specs.Stages.{offset_at, ordinary_to, branch_of, finish_of, stores_to, located_of};
 
 use crate::instruction::Instruction;
-use effects::{Effect, Six};
+use effects::Effect;
 use frame::Placed;
 use instructions::Decoded;
 use instructions::opcodes::*;
 use operands::{inside, jump_relative, lookup_offset, table_offset};
-use rules::{Decision, Halt, Update};
+use rules::{Decision, Halt, Six, Update};
 
 // An instruction that questions 4 to 8 have passed: its shared opcode, index and constant, the offset after it, its first place on
 // the stack, the new depth, and where its words go and how many.
@@ -68,21 +68,16 @@ fn first_place(first: u32, many: u32) -> u32
 }
 
 // An ordinary step to an offset, with the first of some words written from a place on.
-fn ordinary_to(to: usize, depth: u32, first: u32, many: u32, w: Six) -> Update
+fn ordinary_to(to: usize, depth: u32, first: u32, many: u32, words: Six) -> Update
     requires { to ≤ 65535 }
-    ensures { result ≡ ordinary_to to depth first many w }
+    ensures { result ≡ ordinary_to to depth first many words }
 {
     Update {
         pc: to as u32,
         depth,
         first: first_place(first, many),
         many,
-        w0: w.w0,
-        w1: w.w1,
-        w2: w.w2,
-        w3: w.w3,
-        w4: w.w4,
-        w5: w.w5,
+        words,
     }
 }
 

@@ -13,7 +13,7 @@ use Rattle.rules.specs.Instructions.{row_of}
 use Rattle.rules.specs.Fetch.{wide_check, table_check, lookup_check, offsets_from, pairs_from, fetched, aligned}
 use Rattle.rules.specs.Returns.{is_return_type, narrowed, returned}
 use Rattle.rules.specs.Questions.{Method, method, frame_check, needs_check}
-use Rattle.rules.specs.Step.{decide_frame, decide_of, core_machine}
+use Rattle.rules.specs.Step.{six, decide_frame, decide_of, core_machine}
 use Rattle.rules.specs.Run.{Ran, run_from, run_of}
 use Rattle.std.specs.Prelude.{Ok, Some}
 use Rattle.rules.specs.Decisions.{Decision}
@@ -27,18 +27,7 @@ state stack locals pc depth count = record { max_stack = stack; max_locals = loc
 -- an ordinary step to an offset and a depth that writes these words from a place on, written out
 abbrev pub changes : ℕ → ℕ → ℕ → List ℕ → Decision
 changes pc depth first ws =
-    Ok (record {
-      pc = pc;
-      depth = depth;
-      first = first;
-      many = length ws;
-      w0 = get_or ws 0 0;
-      w1 = get_or ws 1 0;
-      w2 = get_or ws 2 0;
-      w3 = get_or ws 3 0;
-      w4 = get_or ws 4 0;
-      w5 = get_or ws 5 0;
-    })
+    Ok (record { pc = pc; depth = depth; first = first; many = length ws; words = six ws })
 
 unfoldable pub decided : Method → State → List ℕ → Decision
 unfolding decide_frame frame_check fetched needs_check wide_check table_check lookup_check offsets_from pairs_from row_of ◌else◌ ◌>>◌ ◌>>=◌

@@ -4,6 +4,7 @@ use Rattle.std.proofs.Math.Seq.{paste}
 use Rattle.values.specs.declared.Value.{Value}
 use Rattle.values.specs.Kinds.{places_of}
 use Rattle.rules.specs.declared.states.State.{State}
+use Rattle.rules.specs.declared.updates.Six.{Six}
 use Rattle.rules.specs.declared.updates.Update.{Update}
 use Rattle.rules.specs.Check.{Check, ◌else◌, ◌>>=◌, ◌>>◌, ◌≤ⁿ◌, ◌<ⁿ◌, ◌=ⁿ◌}
 use Rattle.rules.specs.Forms.{Result, pushes, stores, divides, branches, returns, Source, stack, local, pool}
@@ -41,21 +42,13 @@ abbrev pub first_place : ℕ → ℕ → ℕ
 first_place at zero = 0
 first_place at (suc n) = at
 
+-- the first six of some words; those past their end are 0
+abbrev pub six : List ℕ → Six
+six ws = record { w0 = get_or ws 0 0; w1 = get_or ws 1 0; w2 = get_or ws 2 0; w3 = get_or ws 3 0; w4 = get_or ws 4 0; w5 = get_or ws 5 0 }
+
 -- n words written from place `at` on
 abbrev pub update : ℕ → ℕ → ℕ → ℕ → List ℕ → Update
-update pc depth at n ws =
-    record {
-      pc = pc;
-      depth = depth;
-      first = first_place at n;
-      many = n;
-      w0 = get_or ws 0 0;
-      w1 = get_or ws 1 0;
-      w2 = get_or ws 2 0;
-      w3 = get_or ws 3 0;
-      w4 = get_or ws 4 0;
-      w5 = get_or ws 5 0;
-    }
+update pc depth at n ws = record { pc = pc; depth = depth; first = first_place at n; many = n; words = six ws }
 
 -- 10. Is the next pc inside the code?
 abbrev pub inside : List ℕ → ℤ → Check ℕ
@@ -173,7 +166,7 @@ moved s pc depth count =
     }
 
 abbrev pub update_words : Update → List ℕ
-update_words u = u.w0 ∷ u.w1 ∷ u.w2 ∷ u.w3 ∷ u.w4 ∷ u.w5 ∷ []
+update_words u = u.words.w0 ∷ u.words.w1 ∷ u.words.w2 ∷ u.words.w3 ∷ u.words.w4 ∷ u.words.w5 ∷ []
 
 abbrev pub written : Update → List ℕ → List ℕ
 written u slots = paste slots u.first (update_words u) u.many

@@ -20,7 +20,7 @@ pub use refusals::Refusal;
 pub use sheets::{Loaded, Mark, Reading};
 pub use slices::get_or;
 pub use states::State;
-pub use updates::Update;
+pub use updates::{Six, Update};
 
 // A line of the page of opcodes: an opcode, its length in bytes, and the places that it pops and pushes. Length 0 marks a switch, 254 WIDE and 255 an opcode outside
 // the core: numbers and no enum, for the page prints them so.

@@ -5,4 +5,4 @@ use Rattle.frame.proofs.words.write_update.Goals as goal
 
 pub returns-then-u-eq1 : goal.returns-then-u-eq1
 returns-then-u-eq1 c = let a = c.args in
-    rw c.if-u-eq1.true (one_written a.target.now a.at a.u.w0 (omega arith))
+    rw c.if-u-eq1.true (one_written a.target.now a.at a.u.words.w0 (omega arith))

@@ -24,5 +24,5 @@ unfolding ◌else◌ ◌>>◌ ◌>>=◌
 returns c = let a = c.args in
     let room : 1 ≤ a.s.max_stack = omega arith in
     let answer : inside a.code.now (pos a.handler) ≡ Ok c.in_ok-inside.field-0 = rw (← c.from.ensures) (sym c.inside.ensures ∙ c.in_ok-inside.was) in
-    let zeros = c.default.ensures.1.1.1.1.1 in
+    let zeros = c.default.ensures.1 in
     rw (c.from-2.ensures, c.from-3.ensures, zeros.0, zeros.1.0, zeros.1.1.0, zeros.1.1.1.0, zeros.1.1.1.1) (simp (le-leb _ _ room, answer, ← inside_place a.code.now a.handler _ answer))
