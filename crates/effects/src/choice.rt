@@ -60,7 +60,7 @@ fn arithmetic_effect(op: u8, constant: u32, a: u32, b: u32, c: u32, d: u32) -> E
     requires le_op { (96 ≤ op) × (op < 133) }
     ensures { result ≡ effect_at op constant a b c d }
 {
-    // tested here: tried: as an arm of `effect`, a step of the loop of longs and doubles took 130.4 machine instructions and not 129.1
+    // before the match: tried: as an arm of `effect`, a step of the loop of longs and doubles took 130.4 machine instructions and not 129.1
     if op == IINC {
         return one(a.add(constant));
     }

@@ -19,6 +19,7 @@ pub(crate) trait OnStack: Integer + Word {
     fn push(self) -> Effect
         ensures { result ≡ effect_of (pushes (words_of Self.kind (Self.word self))) };
 
+    // The bits are the same number by either trait.
     ghost same: { (x : Self) → Self.Word.number x ≡ Self.Integer.word x };
 }
 
