@@ -18,12 +18,12 @@ fn write_several(target: &mut [u32], at: usize, u: Update)
     requires { (u.many ≤ 6) × (at + u.many ≤ length target.old) }
     ensures { target.new ≡ paste target.old at (update_words u) u.many }
 {
-    let w = u.words;
     if u.many == 2 {
-        target[at] = w.w0;
-        target[at + 1] = w.w1;
+        target[at] = u.words.w0;
+        target[at + 1] = u.words.w1;
         return;
     }
+    let w = u.words;
     let words = [w.w0, w.w1, w.w2, w.w3, w.w4, w.w5];
     write_words(target, at, &words[..u.many as usize]);
 }
