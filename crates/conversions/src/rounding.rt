@@ -4,6 +4,7 @@ ghost use Rattle.std.specs.Float.Ieee.{round, to_bits};
 ghost use Rattle.std.specs.Float.Ieee.Nearest.{closest};
 
 use crate::format::Format;
+use std::cmp::Ordering;
 
 // m / 2^shift to the nearest whole number, and a tie to the even one.
 fn nearest_quotient(m: u64, shift: u32) -> u64
@@ -20,12 +21,10 @@ fn nearest_quotient(m: u64, shift: u32) -> u64
     let unit = 1u64 << shift;
     let quotient = m / unit;
     let rest = m % unit;
-    if rest < unit - rest {
-        quotient
-    } else if unit - rest < rest {
-        quotient + 1
-    } else {
-        quotient + quotient % 2
+    match rest.cmp(&(unit - rest)) {
+        Ordering::Less => quotient,
+        Ordering::Equal => quotient + quotient % 2,
+        Ordering::Greater => quotient + 1,
     }
 }
 

@@ -46,7 +46,7 @@ struct Instruction<'a> {
     entry: Entry,
 }
 
-impl<'a> Instruction<'a> {
+impl Instruction<'_> {
     // Question 5 for an instruction of a length in bytes.
     fn sized(self, size: usize, index: u32, constant: u32) -> Result<Decoded, Refusal>
         requires { size < 512 }

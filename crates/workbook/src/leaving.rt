@@ -26,7 +26,7 @@ fn leave_state(state: &mut [u32], s: State, a: Pressed)
     requires { state_size ≤ length state.old }
     ensures { state.new ≡ state_after state.old s a }
 {
-    if let Ok(()) = a {
+    if a.is_ok() {
         write_state(state, s);
     }
 }

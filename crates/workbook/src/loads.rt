@@ -6,7 +6,7 @@ ghost use Rattle.rules.specs.Sheet.{sheet_check};
 ghost use Rattle.workbook.specs.Calls.{parts_of, words_check, load_call};
 ghost use Rattle.workbook.specs.Demand3.{FromThisLoad};
 
-use crate::state_words::{ANSWER_WORDS, are_lent, write_state};
+use crate::state_words::{are_lent, write_state};
 use frame::write_words;
 use rules::{Loaded, Reading, Refusal};
 use sheet::{check_sheet, handlers_length, load_read};
