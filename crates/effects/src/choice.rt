@@ -93,7 +93,7 @@ fn control_effect(op: u8, a: u32, b: u32) -> Effect
     branch_effect(op, a, b)
 }
 
-// What a shared opcode does with its constant and its words. The words are taken apart here: passed on as one, a step took 199.3 machine instructions and not 190.0.
+// What a shared opcode does with its constant and its words. The words are taken apart here: tried: passed on as one, by value or by reference, a step of the int loop took 136.3 machine instructions and not 120.8.
 pub fn effect(op: u8, constant: u32, w: Four) -> Effect
     requires { is_in shared_opcodes op ≡ true }
     ensures { result ≡ effect_at op constant w.a w.b w.c w.d }

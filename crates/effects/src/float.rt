@@ -8,7 +8,6 @@ ghost use Rattle.effects.specs.OnStack.{first_of, second_of};
 
 use crate::on_stack::OnStack;
 use crate::outcome::Effect;
-use conversions::Format;
 use floats::{Arithmetic, add, div, mul, neg, rem, sub};
 use instructions::opcodes::*;
 
