@@ -60,7 +60,7 @@ fn arithmetic_effect(op: u8, constant: u32, a: u32, b: u32, c: u32, d: u32) -> E
     requires le_op { (96 ≤ op) × (op < 133) }
     ensures { result ≡ effect_at op constant a b c d }
 {
-    // before the match: tried: as an arm of `effect`, a step of the loop of longs and doubles took 130.4 machine instructions and not 129.1
+    // before the match: as an arm of `effect` it was tried, and a step of the loop of longs and doubles took 130.4 machine instructions and not 129.1
     if op == IINC {
         return one(a.add(constant));
     }
@@ -83,7 +83,7 @@ fn control_effect(op: u8, a: u32, b: u32) -> Effect
     requires le_op { 153 ≤ op }
     ensures { (constant c d : ℕ) → result ≡ effect_at op constant a b c d }
 {
-    // tests in turn: tried: as a match on ranges, a step of the int loop took 137.8 machine instructions and not 121.5
+    // tests in turn: as a match on ranges it was tried, and a step of the int loop took 137.8 machine instructions and not 121.5
     if op == WIDE {
         return nothing();
     }
@@ -93,13 +93,14 @@ fn control_effect(op: u8, a: u32, b: u32) -> Effect
     branch_effect(op, a, b)
 }
 
-// What a shared opcode does with its constant and its words. The words are taken apart here: tried: passed on as one, by value or by reference, a step of the int loop took 136.3 machine instructions and not 120.8.
+// What a shared opcode does with its constant and its words. The words are taken apart here: passed on as one it was tried, by value and by reference, and a step of the int loop took
+// 136.3 machine instructions and not 120.8.
 pub fn effect(op: u8, constant: u32, w: Four) -> Effect
     requires { is_in shared_opcodes op ≡ true }
     ensures { result ≡ effect_at op constant w.a w.b w.c w.d }
 {
     let Four { a, b, c, d } = w;
-    // in five groups: tried: with an arm for each family, a step of the int loop took 163.8 machine instructions and not 121.5
+    // in five groups: with an arm for each family it was tried, and a step of the int loop took 163.8 machine instructions and not 121.5
     match op {
         NOP..=SWAP => plain_effect(op, constant, a, b, c, d),
         IADD..=IINC => arithmetic_effect(op, constant, a, b, c, d),
