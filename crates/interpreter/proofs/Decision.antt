@@ -30,7 +30,7 @@ use Rattle.effects.proofs.OwnRow.{own_effect_lem, shared_listed}
 use Rattle.frame.proofs.Needs.{Stands, pushed_in, locals_in_lem}
 use Rattle.return_types.specs.Settled.{settled}
 use Rattle.interpreter.specs.declared.finishing.Located.{Located}
-use Rattle.interpreter.specs.Stages.{located_of, ordinary_by, offset_at, branch_of, finish_of}
+use Rattle.interpreter.specs.Stages.{located_of, ordinary_to, offset_at, branch_of, finish_of}
 use Rattle.interpreter.proofs.Results.{does_four, is_store, row_stores_lem, offset_by, offset_of, row_offset_lem, row_table, row_pairs}
 use Rattle.std.specs.Prelude.{Ok, Err}
 use Rattle.rules.specs.declared.halts.Halt.TheVariants.{Throw}
@@ -39,13 +39,13 @@ use Rattle.rules.specs.declared.halts.Halt.TheVariants.{Throw}
 
 module _ (l : Method) (s : State) (i : Instruction) where
   ordinary_is : (to : ℤ) (at n : ℕ) (ws : List ℕ)
-      → decision (ordinary l s i to at n ws) ≡ settled s.return_type (ordinary_by (inside l.code to) (s.depth - popped i + pushed i) at n (six ws))
+      → decision (ordinary l s i to at n ws) ≡ settled s.return_type (ordinary_to (inside l.code to) (s.depth - popped i + pushed i) at n (six ws))
   unfolding ◌>>=◌
   ordinary_is to at n ws = go (inside l.code to)
     where
       go : (x : Check ℕ)
           → decision (x >>= λ pc. Ok (Ok (update pc (s.depth - popped i + pushed i) at n ws)))
-          ≡ settled s.return_type (ordinary_by x (s.depth - popped i + pushed i) at n (six ws))
+          ≡ settled s.return_type (ordinary_to x (s.depth - popped i + pushed i) at n (six ws))
       go (Ok pc) = refl
       go (Err n) = refl
 

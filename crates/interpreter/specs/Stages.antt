@@ -65,13 +65,13 @@ located_of entry index constant next base depth =
     }
 
 -- an ordinary step to an offset
-abbrev pub ordinary_to : ℕ → ℕ → ℕ → ℕ → Six → Update
-ordinary_to pc depth first many words = record { pc = pc; depth = depth; first = first_place first many; many = many; words = words }
+abbrev pub update_to : ℕ → ℕ → ℕ → ℕ → Six → Update
+update_to pc depth first many words = record { pc = pc; depth = depth; first = first_place first many; many = many; words = words }
 
 -- by the answer to question 10
-abbrev pub ordinary_by : Check ℕ → ℕ → ℕ → ℕ → Six → Decision
-ordinary_by (Ok pc) depth first many w = Ok (ordinary_to pc depth first many w)
-ordinary_by (Err r) depth first many w = Err (Refused r)
+abbrev pub ordinary_to : Check ℕ → ℕ → ℕ → ℕ → Six → Decision
+ordinary_to (Ok pc) depth first many w = Ok (update_to pc depth first many w)
+ordinary_to (Err r) depth first many w = Err (Refused r)
 
 -- by how much a branch that is taken goes on: a switch by its key, any other by its constant
 unfoldable pub offset_at : List ℕ → ℕ → ℕ → ℕ → ℕ → ℤ
@@ -82,10 +82,10 @@ offset_at code pc op constant key =
 
 unfoldable pub branch_of : List ℕ → ℕ → Located → ℕ → Bool → Decision
 branch_of code pc i key taken =
-    ordinary_by (inside code (cond taken (pos pc +ℤ offset_at code pc i.op i.constant key) (pos i.next))) i.depth 0 0 (six [])
+    ordinary_to (inside code (cond taken (pos pc +ℤ offset_at code pc i.op i.constant key) (pos i.next))) i.depth 0 0 (six [])
 
 unfoldable pub finish_of : List ℕ → ℕ → Located → ℕ → Effect → Decision
-finish_of code pc i key (Effect.Words w) = ordinary_by (inside code (pos i.next)) i.depth i.first i.many w
+finish_of code pc i key (Effect.Words w) = ordinary_to (inside code (pos i.next)) i.depth i.first i.many w
 finish_of code pc i key Effect.Throw = Err Throw
 finish_of code pc i key (Effect.Branch taken) = branch_of code pc i key taken
 finish_of code pc i key (Effect.Return v) = Err (Return v)

@@ -3,7 +3,7 @@ ghost use Rattle.std.specs.Prelude.{◌≡◌, [], true, ◌≤◌};
 ghost use Rattle.values.specs.Kinds.{int};
 ghost use Rattle.values.specs.Words.{meaning};
 ghost use Rattle.rules.specs.Step.{first_place};
-ghost use Rattle.interpreter.specs.Stages.{offset_at, ordinary_to, branch_of, finish_of, stores_to, located_of};
+ghost use Rattle.interpreter.specs.Stages.{offset_at, update_to, branch_of, finish_of, stores_to, located_of};
 
 use crate::instruction::Instruction;
 use effects::Effect;
@@ -68,9 +68,9 @@ fn first_place(first: u32, many: u32) -> u32
 }
 
 // An ordinary step to an offset, with the first of some words written from a place on.
-fn ordinary_to(to: usize, depth: u32, first: u32, many: u32, words: Six) -> Update
+fn update_to(to: usize, depth: u32, first: u32, many: u32, words: Six) -> Update
     requires { to ≤ 65535 }
-    ensures { result ≡ ordinary_to to depth first many words }
+    ensures { result ≡ update_to to depth first many words }
 {
     Update {
         pc: to as u32,
@@ -109,7 +109,7 @@ impl Instruction<'_> {
         ensures { result ≡ branch_of self.now.method.now.code.now self.now.pc self.now.located key true }
     {
         let to = jump_relative(self.method.code, self.pc, self.offset(key))?;
-        Ok(ordinary_to(to, self.located.depth, 0, 0, Six::default()))
+        Ok(update_to(to, self.located.depth, 0, 0, Six::default()))
     }
 
     // A branch, taken or not; `key` is the first word that it works on.
@@ -121,7 +121,7 @@ impl Instruction<'_> {
             return self.jump(key);
         }
         let to = inside(self.method.code, self.located.next)?;
-        Ok(ordinary_to(to, self.located.depth, 0, 0, Six::default()))
+        Ok(update_to(to, self.located.depth, 0, 0, Six::default()))
     }
 
     // What the step comes to, of what the instruction does; `key` is the first word that it works on.
@@ -133,7 +133,7 @@ impl Instruction<'_> {
         match does {
             Effect::Words(w) => {
                 let to = inside(self.method.code, i.next)?;
-                Ok(ordinary_to(to, i.depth, i.first, i.many, w))
+                Ok(update_to(to, i.depth, i.first, i.many, w))
             }
             Effect::Throw => Err(Halt::Throw),
             Effect::Branch(taken) => self.branch(key, taken),

@@ -4,5 +4,5 @@ use mathlib.Core.Path.{sym, ◌∙◌}
 use Rattle.interpreter.proofs.Answers.{target_small}
 use Rattle.interpreter.proofs.instruction.Instruction.branch.Goals as goal
 
-pub ordinary_to-requires : goal.ordinary_to-requires
-ordinary_to-requires c = target_small _ (pos c.args.self.now.located.next) _ (sym c.inside.ensures ∙ c.in_ok-to.was) c.args.self.now.short
+pub update_to-requires : goal.update_to-requires
+update_to-requires c = target_small _ (pos c.args.self.now.located.next) _ (sym c.inside.ensures ∙ c.in_ok-to.was) c.args.self.now.short
