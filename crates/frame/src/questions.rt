@@ -3,11 +3,9 @@ ghost use Rattle.std.specs.Prelude.{ℕ, ◌≡◌, List, length};
 ghost use Rattle.rules.specs.Lent.{lent, with_handlers};
 ghost use Rattle.rules.specs.Questions.{frame_check};
 
-use rules::{Method, Refusal, State, frame_size};
+use rules::{MAX_POOL, Method, Refusal, State, frame_size};
 
-// The most entries of a pool, and the most bytes of a code (JVMS 4.1, 4.7.3).
-const MAX_POOL: usize = 65536;
-
+// The most bytes of a code (JVMS 4.7.3).
 const MAX_CODE: usize = 65535;
 
 // Questions 1 to 3, whatever the handlers are.

@@ -5,20 +5,12 @@ ghost use Rattle.std.specs.Prelude.{◌≡◌};
 ghost use Rattle.rules.specs.Handlers.{covers, takes, catches, handler_at};
 
 use operands::read_code_u16;
+use rules::handler_fields::*;
 use rules::tags::CONSTANT_CLASS;
 use rules::{Method, get_or};
 
 // The bytes of an entry: an EX record of the sheet, whose mark and length are not looked at (JVMS 4.7.3).
 const ENTRY: usize = 12;
-
-// Where its four fields lie. The crate sheet has the same names: it lies beside this one, and each reads the record by itself.
-const START_PC: usize = 4;
-
-const END_PC: usize = 6;
-
-const HANDLER_PC: usize = 8;
-
-const CATCH_TYPE: usize = 10;
 
 type Entry = [u8; ENTRY];
 

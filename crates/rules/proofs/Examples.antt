@@ -2,7 +2,7 @@
 use Prim.Native.Nat.{ℕ, ◌-◌}
 use mathlib.Core.Path.{◌≡◌, refl}
 use mathlib.Core.List.{List, [], ◌∷◌, ◌++◌}
-use lib.ListN.{length, get_or, replicate}
+use lib.ListN.{length, replicate}
 use lib.Ieee as Ieee
 use Rattle.values.specs.declared.Value.TheVariants.{Int}
 use Rattle.values.specs.Integers.{signed, low, bitwise, flipped}

@@ -1,9 +1,10 @@
-// The types that the rules speak of; the rules themselves are in specs/.
+// The types that the rules speak of, and the few functions on them that all crates share; the rules themselves are in specs/.
 #![tactic(auto)]
 
 pub mod descriptors;
 mod frames;
 mod halts;
+pub mod handler_fields;
 pub mod letters;
 mod methods;
 mod refusals;
@@ -15,7 +16,7 @@ mod updates;
 
 pub use frames::frame_size;
 pub use halts::{Decision, End, Halt, Pressed};
-pub use methods::Method;
+pub use methods::{MAX_POOL, Method};
 pub use refusals::Refusal;
 pub use sheets::{Loaded, Mark, Reading};
 pub use slices::get_or;

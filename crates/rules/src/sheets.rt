@@ -30,8 +30,8 @@ pub struct Reading {
     pub argument_count: usize,
 }
 
-// What a load gives in every case, so that it is no Result (RULES, 'The sheet'): whether it is accepted, the state, and where the code and the handlers lie in the sheet. A refused one gives a state of zeros and
-// twice the empty part at the sheet's start.
+// What a load gives in every case, so that it is no Result (RULES, 'The sheet'): whether it is accepted, the state, and where the code and the handlers lie in the sheet. A refused one
+// gives a state of zeros and twice the empty part at the sheet's start. Places and lengths apart, for C is given the four numbers so.
 #[derive(Clone, Copy)]
 pub struct Loaded {
     pub answer: Result<(), Refusal>,

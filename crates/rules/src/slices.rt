@@ -1,9 +1,9 @@
-// Lent memory.
+// What stands at a place of a slice.
 ghost use Rattle.std.specs.Prelude.{◌≡◌, get_or};
 
-// What stands at a place, and a value for what is not there.
-pub fn get_or<T: Copy>(slice: &[T], at: usize, or: T) -> T
-    ensures { result ≡ get_or slice.now at or }
+// The default where there is no such place: past the end of what is lent all reads as 0.
+pub fn get_or<T: Copy>(slice: &[T], at: usize, default: T) -> T
+    ensures { result ≡ get_or slice.now at default }
 {
-    slice.get(at).copied().unwrap_or(or)
+    slice.get(at).copied().unwrap_or(default)
 }

@@ -1,7 +1,7 @@
 // An ordinary step.
 
-// Up to six words, lowest first; those past the number that an instruction gives are 0. Named, and no array: the words that an update has are cut from it, so that an array has to be
-// in memory. With arrays a step took 157.0 machine instructions and not 148.1; today's source, compiled by rustc, takes 5 to 36 more with them (docs/PERFORMANCE).
+// Up to six words, lowest first; those past the number that an instruction gives are 0. Named, and no array: with arrays, of which a write cuts a part so that they are kept in memory, it
+// was tried, and a step of the int loop took 8.9 machine instructions more (docs/PERFORMANCE).
 #[derive(Clone, Copy, Default)]
 pub struct Six {
     pub w0: u32,

@@ -7,7 +7,7 @@ use crate::contents::{read_arguments, read_code, read_constant, read_sizes, read
 use crate::handler_records::read_handler;
 use crate::marks::{ends_sheet, known_mark, may_follow, right_length};
 use crate::records::{NextRecord, Record, Records};
-use rules::{Mark, Reading, Refusal, frame_size};
+use rules::{MAX_POOL, Mark, Reading, Refusal, frame_size};
 
 // What a record of this mark says, where its contents are good.
 fn read_contents(next: &NextRecord, mark: Mark) -> Result<Reading, Refusal>
@@ -82,5 +82,5 @@ pub(crate) fn is_enough(p: &Reading, slots: &[u32], kinds: &[u8], words: &[u32])
     frame_size(p.max_locals, p.max_stack) <= slots.len()
         && p.used.is_none_or(|used| (used as usize) < kinds.len())
         && kinds.len() == words.len()
-        && kinds.len() <= 65536
+        && kinds.len() <= MAX_POOL
 }

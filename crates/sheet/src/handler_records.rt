@@ -5,16 +5,8 @@ ghost use Rattle.rules.specs.Sheet.{is_catch_type, contents_read};
 ghost use Rattle.sheet.specs.Rows.{is_handler};
 
 use crate::records::{NextRecord, constants};
+use rules::handler_fields::*;
 use rules::{Mark, Reading, Refusal};
-
-// Where the four fields of an EX record lie.
-const START_PC: usize = 4;
-
-const END_PC: usize = 6;
-
-const HANDLER_PC: usize = 8;
-
-const CATCH_TYPE: usize = 10;
 
 // Whether a catch type is 0 or the index of a class, of which the KI records between the code and the handlers say which they are.
 fn is_catch_type(next: &NextRecord, catch_type: u16) -> bool
