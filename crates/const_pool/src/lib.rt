@@ -1,4 +1,4 @@
-// The constant pool (const_pool.rs) as kinds and words: question 9, and the words of a constant as they stand, a NaN's payload included.
+// The constant pool (const_pool.rs) as kinds and words: question 9, and the words of a constant as they stand, a NaN's payload included. `as usize` for a u32: `usize` has no `From<u32>`.
 #![tactic(auto)]
 
 ghost use Rattle.std.specs.Prelude.{◌≡◌, ◌||◌};

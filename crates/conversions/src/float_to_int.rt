@@ -1,6 +1,6 @@
 // Floats and doubles to ints and longs: toward zero, to the nearest end of the range where the number is out of it, and 0 for a NaN.
 // `as` where an exponent is cut: it is at most `ones`, and TryFrom would give a Result that cannot fail.
-ghost use Rattle.std.specs.Prelude.{◌≡◌, ◌*◌, ◌/◌, ◌<◌, ◌≤◌, ◌^◌, min, suc};
+ghost use Rattle.std.specs.Prelude.{◌≡◌, ◌*◌, ◌/◌, ◌<◌, ◌^◌, min, suc};
 ghost use Rattle.std.specs.Float.Ieee.{of_bits, to_signed};
 ghost use Rattle.values.specs.Integers.{low};
 ghost use Rattle.conversions.specs.CutOff.{whole_part, saturated};

@@ -57,20 +57,9 @@ pub(crate) fn integer_effect<T: OnStack>(operation: Operation, a: T, b: T, count
         Operation::Add => a.add(b).push(),
         Operation::Sub => a.sub(b).push(),
         Operation::Mul => a.mul(b).push(),
-        Operation::Div => {
-            if b.is_zero() {
-                Effect::Throw
-            } else {
-                a.div(b).push()
-            }
-        }
-        Operation::Rem => {
-            if b.is_zero() {
-                Effect::Throw
-            } else {
-                a.rem(b).push()
-            }
-        }
+        Operation::Div | Operation::Rem if b.is_zero() => Effect::Throw,
+        Operation::Div => a.div(b).push(),
+        Operation::Rem => a.rem(b).push(),
         Operation::Neg => a.neg().push(),
         Operation::Shl => a.shl(count).push(),
         Operation::Shr => a.shr(count).push(),

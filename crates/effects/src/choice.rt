@@ -19,6 +19,8 @@ use crate::stack::stack_effect;
 use instructions::opcodes::*;
 use integers::Integer;
 
+// That an opcode is a shared one stands in four contracts and in no type: the table's entry gives it, and a type for it would be made and taken apart at each call.
+
 // Constants, moves and the stack: the opcodes before IADD.
 fn plain_effect(op: u8, constant: u32, a: u32, b: u32, c: u32, d: u32) -> Effect
     requires op_value { is_in shared_opcodes op ≡ true }
@@ -45,8 +47,8 @@ pub(crate) enum Numbers {
 fn arithmetic_kind(op: u8) -> Numbers
     ensures { result ≡ arithmetic_kind op }
 {
-    let kinds = if op < ISHL { 4 } else { 2 };
-    match op % kinds {
+    let turn = if op < ISHL { 4 } else { 2 };
+    match op % turn {
         0 => Numbers::Ints,
         1 => Numbers::Longs,
         2 => Numbers::Floats,
@@ -60,7 +62,7 @@ fn arithmetic_effect(op: u8, constant: u32, a: u32, b: u32, c: u32, d: u32) -> E
     requires le_op { (96 ≤ op) × (op < 133) }
     ensures { result ≡ effect_at op constant a b c d }
 {
-    // before the match: as an arm of `effect` it was tried, and a step of the loop of longs and doubles took 130.4 machine instructions and not 129.1
+    // before the match: as an arm of `effect` it was tried, and a step of the loop of longs and doubles took 1.3 machine instructions more
     if op == IINC {
         return one(a.add(constant));
     }
@@ -83,7 +85,7 @@ fn control_effect(op: u8, a: u32, b: u32) -> Effect
     requires le_op { 153 ≤ op }
     ensures { (constant c d : ℕ) → result ≡ effect_at op constant a b c d }
 {
-    // tests in turn: as a match on ranges it was tried, and a step of the int loop took 137.8 machine instructions and not 121.5
+    // tests in turn: as a match on ranges it was tried, and a step of the int loop took 16.3 machine instructions more
     if op == WIDE {
         return nothing();
     }
@@ -94,13 +96,13 @@ fn control_effect(op: u8, a: u32, b: u32) -> Effect
 }
 
 // What a shared opcode does with its constant and its words. The words are taken apart here: passed on as one it was tried, by value and by reference, and a step of the int loop took
-// 136.3 machine instructions and not 120.8.
+// 15.5 machine instructions more.
 pub fn effect(op: u8, constant: u32, w: Four) -> Effect
     requires { is_in shared_opcodes op ≡ true }
     ensures { result ≡ effect_at op constant w.a w.b w.c w.d }
 {
     let Four { a, b, c, d } = w;
-    // in five groups: with an arm for each family it was tried, and a step of the int loop took 163.8 machine instructions and not 121.5
+    // in five groups: with an arm for each family it was tried, and a step of the int loop took 42.3 machine instructions more
     match op {
         NOP..=SWAP => plain_effect(op, constant, a, b, c, d),
         IADD..=IINC => arithmetic_effect(op, constant, a, b, c, d),

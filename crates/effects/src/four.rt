@@ -1,6 +1,6 @@
 // The words that an instruction works on.
 
-// Up to four words, lowest first; those past the number that an instruction works on are any. Named as the functions that work on them name them.
+// Up to four words, lowest first; those past the number that an instruction works on are any. Named, and no array: no plainer, for each function takes them apart by these names.
 #[derive(Clone, Copy)]
 pub struct Four {
     pub a: u32,

@@ -9,13 +9,15 @@ use crate::outcome::{Effect, one, split};
 use conversions::Word;
 use integers::{Integer, join_words};
 
-// The bits of a number. Those of a float lie as an int's do, and those of a double as a long's.
+// The bits of a number. Those of a float lie as an int's do, and those of a double as a long's. That both traits under this one say the same of a word is a law here, and no
+// single trait: conversions and integers do not stand on one another.
 pub(crate) trait OnStack: Integer + Word {
     // The two numbers that words are, lowest first.
     fn popped(a: u32, b: u32, c: u32, d: u32) -> (Self, Self)
         ensures first { Self.word result.0 ≡ first_of Self.kind a b c d }
         ensures second { Self.word result.1 ≡ second_of Self.kind a b c d };
 
+    // The effect that pushes it.
     fn push(self) -> Effect
         ensures { result ≡ effect_of (pushes (words_of Self.kind (Self.word self))) };
 

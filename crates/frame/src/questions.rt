@@ -1,4 +1,4 @@
-// Questions 1 to 3: whether a frame stands in what is lent.
+// Questions 1 to 3: whether a frame stands in what is lent. `as usize` for a u32: `usize` has no `From<u32>`.
 ghost use Rattle.std.specs.Prelude.{ℕ, ◌≡◌, List, length};
 ghost use Rattle.rules.specs.Lent.{lent, with_handlers};
 ghost use Rattle.rules.specs.Questions.{frame_check};

@@ -1,4 +1,4 @@
-// The slots of a frame: the locals, and after them the operand stack.
+// The slots of a frame: the locals, and after them the operand stack. `as usize` for a u32: `usize` has no `From<u32>`.
 ghost use Rattle.std.specs.Prelude.{◌≡◌};
 ghost use Rattle.rules.specs.Step.{written};
 ghost use Rattle.frame.specs.Writable.{Writable};

@@ -1,4 +1,4 @@
-// Words written one after another, and those of an update.
+// Words written one after another, and those of an update. `as usize` for a u32: `usize` has no `From<u32>`.
 ghost use Rattle.std.specs.Prelude.{◌≡◌, ◌+◌, ◌≤◌, length};
 ghost use Rattle.std.proofs.Math.Seq.{paste};
 ghost use Rattle.rules.specs.Step.{update_words};
@@ -28,8 +28,8 @@ fn write_several(target: &mut [u32], at: usize, u: Update)
     write_words(target, at, &words[..u.many as usize]);
 }
 
-// The words that an update has, written from an index on. Most updates have one, and few more than two: by the slice alone a step of
-// a loop of ints takes 144.2 machine instructions and not 124.9.
+// The words that an update has, written from an index on. Most updates have one, and few more than two: by the slice alone it was tried, and a step
+// of the int loop took 19.3 machine instructions more.
 pub(crate) fn write_update(target: &mut [u32], at: usize, u: Update)
     requires { (u.many ≤ 6) × (at + u.many ≤ length target.old) }
     ensures { target.new ≡ paste target.old at (update_words u) u.many }

@@ -1,4 +1,4 @@
-// Questions 4 and 5: the instruction at an offset of the code.
+// Questions 4 and 5: the instruction at an offset of the code. `as usize` for a u32: `usize` has no `From<u32>`.
 ghost use Rattle.std.specs.Prelude.{◌≡◌, ◌<◌};
 ghost use Rattle.rules.specs.Fetch.{fetched, widens, wide_check};
 ghost use Rattle.rules.specs.Forms.{Row};

@@ -21,7 +21,7 @@ fn row(format: Format, shared: u8, locals: u8, pops: u8, pushes: u8) -> Entry
 }
 
 // The entry of an opcode: its format, its shared opcode, and the places of its local, those popped and those pushed. An opcode outside the core has none.
-// inlined: as a call a step of the int loop has 154.1 machine instructions, and so 124.9
+// inlined: as a call it was tried, and a step of the int loop took 29.2 machine instructions more
 #[inline(always)]
 #[tactic(auto, unfolding(rules::specs::Instructions::row_of, crate::specs::Table::entry_of))]
 pub fn entry(opcode: u8) -> Option<Entry>

@@ -79,8 +79,8 @@ pub(crate) fn advance_framed(method: &Method, slots: &mut [u32], s: State, most:
     }
 }
 
-// At most so many steps on any method, slots and state; with 0, the decision alone. Without handlers a press of forward is spared the call of `advance_framed`, and takes
-// 528.7 machine instructions and not 564.1.
+// At most so many steps on any method, slots and state; with 0, the decision alone. Without handlers a press of forward is spared the call of `advance_framed`: with
+// the call alone it was tried, and took 35.4 machine instructions more.
 pub fn advance(method: &Method, slots: &mut [u32], s: State, most: u64) -> Reached
     ensures { reached result slots.new ≡ advance_from (lent method.now) most 0 s slots.old }
 {

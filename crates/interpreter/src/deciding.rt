@@ -1,4 +1,4 @@
-// One step, decided with nothing written: questions 1 to 10 in their order, what the instruction does, the handlers of a throw, and question 32 of a return.
+// One step, decided with nothing written: questions 1 to 10 in their order, what the instruction does, the handlers of a throw, and question 32 of a return. `as usize` for a u32: `usize` has no `From<u32>`.
 ghost use Rattle.std.specs.Prelude.{◌≡◌, length};
 ghost use Rattle.rules.specs.Lent.{lent, plain};
 ghost use Rattle.rules.specs.Questions.{frame_check};

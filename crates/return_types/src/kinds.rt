@@ -24,7 +24,8 @@ pub(crate) enum ReturnType {
 }
 
 impl ReturnType {
-    // The return type of a word of a state, if it is one: the state is lent by C, and any word may stand there.
+    // The return type of a word of a state, if it is one: the state is lent by C, and any word may stand there. An
+    // Option and no TryFrom: of a word that is none there is nothing to say.
     #[tactic(auto, unfolding(rules::specs::Returns::is_return_type))]
     pub(crate) fn from_word(word: u32) -> Option<ReturnType>
         ensures { MatchOption result (is_return_type word ≡ false) (λ t. word ≡ letter t) }

@@ -63,7 +63,7 @@ abbrev pub forward_answer : ℕ → ℕ → Decision → Pressed
 forward_answer room net (Ok u) = check_answer (log_check net room)
 forward_answer room net (Err h) = Err h
 
--- a plain walk's net always has its stage, so that the first clause is never met: an Option would go on through the answers of every press for it
+-- a plain walk's net always has its stage, so that the first clause is never met; with an Option for it each press's answer would be one too
 abbrev pub decision_of : PlainWalk → Option Stage → Decision
 decision_of f None = Err (Refused Refusal.Lengths)
 decision_of f (Some t) = (decision_at f t).decision

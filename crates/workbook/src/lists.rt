@@ -45,10 +45,7 @@ pub extern "C" fn workbook_presses(
     ensures answers_after { record { number = result; slots = slots.new; log = log.new; state = state.new; answer = answers.new } ≡ presses_call (machine code.now kinds.now words.now handlers.now) slots.old log.old state.old bytes.now answers.old }
     ensures from_any_load_call { FromAnyLoadCall (method code.now kinds.now words.now handlers.now) slots.old log.old state.old bytes.now answers.old (record { number = result; slots = slots.new; log = log.new; state = state.new; answer = answers.new }) }
 {
-    if answers.len() / 3 < bytes.len() {
-        return Refusal::Lengths.number();
-    }
-    if state.len() < STATE_WORDS {
+    if answers.len() / 3 < bytes.len() || state.len() < STATE_WORDS {
         return Refusal::Lengths.number();
     }
     let method = Method {

@@ -55,7 +55,8 @@ pub(crate) fn lent_state(state: &[u32], answer: &[u32]) -> Result<State, Refusal
     read_state(state)
 }
 
-// Writes a state into the words.
+// Writes a state into the words. That there are so many is asked of the caller here and where a press leaves its state: they are lent as a slice, and an array cut from it would ask
+// for the same.
 pub(crate) fn write_state(state: &mut [u32], s: State)
     requires { state_size ≤ length state.old }
     ensures { state.new ≡ with_state state.old s }

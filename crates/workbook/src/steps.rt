@@ -10,7 +10,8 @@ use history::{back, forward, pressed_by};
 use interpreter::step;
 use rules::Method;
 
-// A step without history. Each exported function makes its Method itself: a function for that would take the same four parts by the same names.
+// A step without history. Each exported function makes its Method itself: a function for that would take the same four parts by the same names. Each takes a refusal's number by a match
+// and not by `?`: a function inside it that gave a Result would take all of its parameters again.
 #[unsafe(no_mangle)]
 pub extern "C" fn workbook_step(
     code: &[u8],
