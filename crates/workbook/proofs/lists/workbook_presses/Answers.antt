@@ -7,20 +7,17 @@ use Rattle.workbook.proofs.StateRead.{read_yes, sizes_no}
 use Rattle.workbook.proofs.ManyPresses.{few_answers, few_state, no_state, list_made, never_refused}
 use Rattle.workbook.proofs.Demand3.{list_promised}
 use Rattle.workbook.proofs.lists.workbook_presses.Goals as goal
+use Rattle.workbook.proofs.lists.workbook_presses.Goals.{then-answers-bytes-via-then-answers-bytes, then-answers-bytes-via-else-answers-bytes+then-state-lt-STATE_WORDS}
 
 pub returns-then-answers-bytes : goal.returns-then-answers-bytes
 returns-then-answers-bytes c = let a = c.args in
     let l = method a.code.now a.kinds.now a.words.now a.handlers.now in
-    let k = list_promised l a.slots.now a.log.now a.state.now a.bytes.now a.answers.now _
-    (few_answers (core_machine l) a.slots.now a.log.now a.state.now a.bytes.now a.answers.now (omega (arith, c.if-answers-bytes.true))) in
+    let k = list_promised l a.slots.now a.log.now a.state.now a.bytes.now a.answers.now _ (elim c.then-answers-bytes.branch [
+      | then-answers-bytes-via-then-answers-bytes w ↦ few_answers (core_machine l) a.slots.now a.log.now a.state.now a.bytes.now a.answers.now (omega (arith, w.if-answers-bytes.true))
+      | then-answers-bytes-via-else-answers-bytes+then-state-lt-STATE_WORDS w ↦
+          few_state (core_machine l) a.slots.now a.log.now a.state.now a.bytes.now a.answers.now (omega (arith, w.if-answers-bytes.false)) w.if-state-lt-STATE_WORDS.true
+    ]) in
     rw c.number.ensures (record { answers_after = k.0; from_any_load_call = k.1 })
-
-pub returns-then-state-lt-STATE_WORDS : goal.returns-then-state-lt-STATE_WORDS
-returns-then-state-lt-STATE_WORDS c = let a = c.args in
-    let l = method a.code.now a.kinds.now a.words.now a.handlers.now in
-    let k = list_promised l a.slots.now a.log.now a.state.now a.bytes.now a.answers.now _
-    (few_state (core_machine l) a.slots.now a.log.now a.state.now a.bytes.now a.answers.now (omega (arith, c.if-answers-bytes.false)) c.if-state-lt-STATE_WORDS.true) in
-    rw c.number-then-state-lt-STATE_WORDS.ensures (record { answers_after = k.0; from_any_load_call = k.1 })
 
 pub returns-in_default : goal.returns-in_default
 returns-in_default c = let a = c.args in
