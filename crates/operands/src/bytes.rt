@@ -1,5 +1,5 @@
 // The bytes of the code, big-endian; past its end they read as 0.
-ghost use Rattle.std.specs.Prelude.{◌≡◌, ◌+◌, ◌*◌};
+ghost use Rattle.std.specs.Prelude.{◌≡◌};
 ghost use Rattle.values.specs.Kinds.{int};
 ghost use Rattle.values.specs.Words.{bits};
 ghost use Rattle.rules.specs.Fetch.{u8, u16, u32, s8, s16};

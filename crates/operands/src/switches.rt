@@ -1,4 +1,5 @@
 // TABLESWITCH and LOOKUPSWITCH (JVMS 6.5): whether their tables are whole and in order, and the offset for a key.
+// `as usize` for a u32: `usize` has no `From<u32>`.
 ghost use Rattle.std.specs.Prelude.{◌≡◌, ◌+◌, ◌*◌, ◌^◌, ◌<◌, ◌≤◌, length, map};
 ghost use Rattle.values.specs.Kinds.{int};
 ghost use Rattle.values.specs.Words.{meaning};
