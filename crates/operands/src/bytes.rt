@@ -1,5 +1,5 @@
 // The bytes of the code, big-endian; past its end they read as 0.
-ghost use Rattle.std.specs.Prelude.{◌≡◌, ◌+◌, ◌*◌};
+ghost use Rattle.std.specs.Prelude.{◌≡◌};
 ghost use Rattle.values.specs.Kinds.{int};
 ghost use Rattle.values.specs.Words.{bits};
 ghost use Rattle.rules.specs.Fetch.{u8, u16, u32, s8, s16};
@@ -34,8 +34,8 @@ pub fn read_code_u32(code: &[u8], at: usize) -> u32
     if code.len() <= at {
         return 0;
     }
-    if 4 <= code.len() - at {
-        return u32::from_be_bytes([code[at], code[at + 1], code[at + 2], code[at + 3]]);
+    if let Some(bytes) = code[at..].first_chunk::<4>() {
+        return u32::from_be_bytes(*bytes);
     }
     let high = read_code_u16(code, at);
     let low = read_code_u16(code, at + 2);

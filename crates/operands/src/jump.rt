@@ -1,4 +1,5 @@
 // The target of a branch (JVMS 6.5, goto), which is counted from the opcode, and question 10.
+// `as usize` for a u32: `usize` has no `From<u32>`.
 ghost use Rattle.std.specs.Prelude.{◌≡◌, pos, ◌+ℤ◌};
 ghost use Rattle.values.specs.Kinds.{int};
 ghost use Rattle.values.specs.Words.{meaning};

@@ -1,7 +1,7 @@
 // TABLESWITCH and LOOKUPSWITCH (JVMS 6.5): whether their tables are whole and in order, and the offset for a key.
+// `as usize` for a u32: `usize` has no `From<u32>`.
 ghost use Rattle.std.specs.Prelude.{◌≡◌, ◌+◌, ◌*◌, ◌^◌, ◌<◌, ◌≤◌, length, map};
 ghost use Rattle.values.specs.Kinds.{int};
-ghost use Rattle.values.specs.Integers.{◌<ᶻ◌};
 ghost use Rattle.values.specs.Words.{meaning};
 ghost use Rattle.rules.specs.Check.{◌≤ⁿ◌};
 ghost use Rattle.rules.specs.Forms.{Row};
@@ -137,18 +137,11 @@ pub fn table_offset(code: &[u8], pc: u32, key: u32) -> u32
     operands.word(12 + 4 * i as usize)
 }
 
-// The order that the keys of a LOOKUPSWITCH have: a < b.
-fn in_order(a: u32, b: u32) -> bool
-    ensures { result ≡ (meaning int a <ᶻ meaning int b) }
-{
-    icmplt(a, b)
-}
-
 // Whether the keys of pairs rise strictly.
 fn keys_rise(pairs: &[Pair]) -> bool
     ensures { result ≡ rising (map pair_of pairs.now) }
 {
-    pairs.is_sorted_by(|a, b| in_order(read_code_u32(a, 0), read_code_u32(b, 0)))
+    pairs.is_sorted_by(|a, b| icmplt(read_code_u32(a, 0), read_code_u32(b, 0)))
 }
 
 // LOOKUPSWITCH: its fixed fields, its count of pairs, its whole table and the order of all its keys.
