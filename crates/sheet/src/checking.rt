@@ -45,7 +45,7 @@ fn check_record(record: Record, before: Reading) -> Result<Reading, Refusal>
     if length < record.body() || length < record.end() {
         return Err(Refusal::RecordCut);
     }
-    let mark = known_mark(record.mark())?;
+    let mark = known_mark(&record.mark())?;
     check_marked(&NextRecord { record, before }, mark)
 }
 
