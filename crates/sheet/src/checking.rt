@@ -1,4 +1,4 @@
-// The whole sheet, record by record, and the memory that its method asks for.
+// The whole sheet, record by record, and the memory that its method asks for. `as usize` for a u32: `usize` has no `From<u32>`.
 ghost use Rattle.std.specs.Prelude.{◌≡◌, ◌+◌, ◌≤◌};
 ghost use Rattle.rules.specs.Sheet.{contents_read, marked_check, record_check, unread, sheet_check};
 ghost use Rattle.sheet.specs.Rows.{is_enough};
