@@ -22,7 +22,8 @@ struct Parameters<'a> {
 const PLACES: u32 = 255;
 
 impl<'a> Cursor<'a> {
-    // The parameters, from offset 1 on; none where they have more places than a method may have. They differ in length, so that a `for` over them would be no plainer.
+    // The parameters, from offset 1 on; none where they have more places than a method may have.
+    // By `while`: the place where they end is wanted, which an iterator over them would keep to itself.
     fn parameters(self) -> Option<Parameters<'a>>
         requires { self.at ≡ 1 }
         ensures { Counted self.entry.descriptor.now result }

@@ -1,4 +1,4 @@
-// The whole sheet, record by record, and the memory that its method asks for.
+// The whole sheet, record by record, and the memory that its method asks for. `as usize` for a u32: `usize` has no `From<u32>`.
 ghost use Rattle.std.specs.Prelude.{◌≡◌, ◌+◌, ◌≤◌};
 ghost use Rattle.rules.specs.Sheet.{contents_read, marked_check, record_check, unread, sheet_check};
 ghost use Rattle.sheet.specs.Rows.{is_enough};
@@ -37,6 +37,7 @@ fn check_marked(next: &NextRecord, mark: Mark) -> Result<Reading, Refusal>
 }
 
 // The next record, after what has been read before it.
+// That the code ends before the handlers is no ghost field of Reading, here and in records.rt: a struct that has one takes no `..before`, and definitions would hold its proof.
 fn check_record(record: Record, before: Reading) -> Result<Reading, Refusal>
     requires { (before.code + before.code_length ≤ before.handlers) × (before.handlers ≤ record.at) }
     ensures { result ≡ record_check record.entry.sheet.now record.entry.at before }
@@ -45,7 +46,7 @@ fn check_record(record: Record, before: Reading) -> Result<Reading, Refusal>
     if length < record.body() || length < record.end() {
         return Err(Refusal::RecordCut);
     }
-    let mark = known_mark(record.mark())?;
+    let mark = known_mark(&record.mark())?;
     check_marked(&NextRecord { record, before }, mark)
 }
 

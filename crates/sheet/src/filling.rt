@@ -62,7 +62,7 @@ fn write_arguments(sheet: &[u8], at: usize, slots: &mut [u32])
     requires { at + 4 * length slots.old ≤ length sheet.now }
     ensures { slots.new ≡ arguments_from sheet.now at (length slots.old) }
 {
-    // not by zip with chunks of four bytes: that is a second way to read a word beside `read_code_u32`, of which the contract speaks
+    // `slots.iter_mut().zip(words)` with `words` by `as_chunks::<4>` was tried: after the loop only the length of `slots` is known, so that the proof doesn't close
     for (i, slot) in slots.iter_mut().enumerate() {
         *slot = read_code_u32(sheet, at + 4 * i);
     }

@@ -45,6 +45,7 @@ fn state_type(descriptor: Option<Descriptor>) -> u32
 }
 
 // How many bytes of handlers there are: they end where the record of the arguments begins, four bytes before its body.
+// What is required is in no type, here, below and in workbook: a Reading has it only from its AR record on, and a type for a whole one would repeat its fields or wrap it.
 pub fn handlers_length(p: Reading) -> usize
     requires { p.handlers + 4 ≤ p.arguments }
     ensures { result ≡ handlers_length p }

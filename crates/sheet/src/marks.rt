@@ -1,39 +1,27 @@
 // The marks of a sheet's records: which they are, which may follow which, and the lengths that they allow.
 ghost use Rattle.std.specs.Prelude.{◌≡◌};
+ghost use Rattle.rules.specs.Fetch.{u16};
 ghost use Rattle.rules.specs.Sheet.{is_last, is_narrow, tag_suits, word_suits, known_mark, follows, right_length};
 
 use rules::tags::*;
 use rules::{Mark, Refusal};
-
-// The marks in ASCII, as numbers: a constant's value may call no function, so not `u16::from_be_bytes`.
-const LM: u16 = 0x4C4D;
-
-const DS: u16 = 0x4453;
-
-const CD: u16 = 0x4344;
-
-const KI: u16 = 0x4B49;
-
-const EX: u16 = 0x4558;
-
-const AR: u16 = 0x4152;
 
 // The body of a KI record with a value of one word, and of two.
 const NARROW_CONSTANT: u16 = 7;
 
 pub(crate) const WIDE_CONSTANT: u16 = 11;
 
-// The mark of two bytes.
-pub(crate) fn known_mark(bytes: u16) -> Result<Mark, Refusal>
-    ensures { result ≡ known_mark bytes }
+// The mark that two bytes are in ASCII, if they are one.
+pub(crate) fn known_mark(bytes: &[u8; 2]) -> Result<Mark, Refusal>
+    ensures { result ≡ known_mark (u16 bytes.now 0) }
 {
     match bytes {
-        LM => Ok(Mark::LM),
-        DS => Ok(Mark::DS),
-        CD => Ok(Mark::CD),
-        KI => Ok(Mark::KI),
-        EX => Ok(Mark::EX),
-        AR => Ok(Mark::AR),
+        b"LM" => Ok(Mark::LM),
+        b"DS" => Ok(Mark::DS),
+        b"CD" => Ok(Mark::CD),
+        b"KI" => Ok(Mark::KI),
+        b"EX" => Ok(Mark::EX),
+        b"AR" => Ok(Mark::AR),
         _ => Err(Refusal::UnknownMark),
     }
 }

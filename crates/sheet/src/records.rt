@@ -18,10 +18,13 @@ pub(crate) struct Record<'a> {
 
 impl<'a> Record<'a> {
     // The two bytes of its mark.
-    pub(crate) fn mark(&self) -> u16
-        ensures { result ≡ u16 self.now.sheet.now self.now.at }
+    pub(crate) fn mark(&self) -> [u8; 2]
+        ensures { u16 result 0 ≡ u16 self.now.sheet.now self.now.at }
     {
-        read_code_u16(self.sheet, self.at)
+        [
+            read_code_u8(self.sheet, self.at),
+            read_code_u8(self.sheet, self.at + 1),
+        ]
     }
 
     // The two bytes at an offset from its mark on.
