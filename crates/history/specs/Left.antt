@@ -1,5 +1,5 @@
 -- What a press and a list of presses give, with the words that they leave, as the rules have it. Assumes nothing.
-use Rattle.std.specs.Prelude.{ℕ, ◌+◌, List, get_or, Ok, Err}
+use Rattle.std.specs.Prelude.{ℕ, ◌≡◌, ◌+◌, List, get_or, take, drop, Ok, Err}
 use Rattle.rules.specs.declared.states.State.{State}
 use Rattle.rules.specs.History.{AfterPress}
 use Rattle.rules.specs.Presses.{Replayed}
@@ -12,8 +12,12 @@ abbrev pub pressed : PressResult → List ℕ → List ℕ → AfterPress
 pressed r slots log = record { state = r.state; answer = r.answer; slots = slots; log = log }
 
 -- for the private functions of the log: what is read of an entry at an index, and a step taken back
-abbrev pub entry_of : List ℕ → ℕ → Entry
-entry_of log k = record { pc = get_or log k 0; depth = get_or log (k + 1) 0; first = get_or log (k + 2) 0; many = get_or log (k + 3) 0 }
+pub record IsEntry (e : Entry) (log : List ℕ) (k : ℕ) : Type 0 where
+  pub pc : e.pc ≡ get_or log k 0
+  pub depth : e.depth ≡ get_or log (k + 1) 0
+  pub first : e.first ≡ get_or log (k + 2) 0
+  pub many : e.many ≡ get_or log (k + 3) 0
+  pub old : e.old.now ≡ take 6 (drop (k + 4) log)
 
 abbrev pub taken_back : State → List ℕ → List ℕ → AfterPress
 taken_back s slots log = record { state = s; answer = Ok tt; slots = slots; log = log }

@@ -4,7 +4,7 @@ ghost use Rattle.std.proofs.Math.Seq.{paste};
 ghost use Rattle.rules.specs.Check.{is_passed};
 ghost use Rattle.rules.specs.History.{entry_at, undo_record, entry_check, restored};
 ghost use Rattle.frame.specs.Writable.{Writable};
-ghost use Rattle.history.specs.Left.{entry_of, taken_back};
+ghost use Rattle.history.specs.Left.{IsEntry, taken_back};
 
 use frame::write_words;
 use interpreter::moved;
@@ -41,28 +41,30 @@ pub(crate) fn write_entry(slots: &[u32], log: &mut [u32], s: State, u: Update)
     write_words(log, at, &entry);
 }
 
-// An entry but for its old words, which are cut from the log by their place: a pattern `old @ ..` copies an array that is lent, and the borrow checker does not
-// cover that.
+// An entry: where a step began, the places that it wrote, and six words, of which the first are the old ones of those places.
 #[derive(Clone, Copy)]
-struct Entry {
+struct Entry<'a> {
     pc: u32,
     depth: u32,
     first: u32,
     many: u32,
+    old: &'a [u32],
 }
 
-// The first four words of an entry.
-fn read_entry(log: &[u32], n: u64) -> Entry
+// The entry at an index.
+fn read_entry(log: &[u32], n: u64) -> Entry<'_>
     requires { entry_at n + 10 ≤ length log.now }
-    ensures { result ≡ entry_of log.now (entry_at n) }
+    ensures { IsEntry result log.now (entry_at n) }
 {
     let (entries, _) = log.as_chunks::<ENTRY>();
-    let [pc, depth, first, many, ..] = entries[n as usize];
+    let entry = &entries[n as usize];
+    let [pc, depth, first, many, ..] = *entry;
     Entry {
         pc,
         depth,
         first,
         many,
+        old: &entry[4..],
     }
 }
 
@@ -90,8 +92,7 @@ pub(crate) fn restore(slots: &mut [u32], log: &[u32], s: State) -> State
     let entry = read_entry(log, count);
     if entry.many > 0 {
         let first = entry.first as usize;
-        let old = entry_at(count) + 4;
-        write_words(slots, first, &log[old..old + entry.many as usize]);
+        write_words(slots, first, &entry.old[..entry.many as usize]);
     }
     moved(s, entry.pc, entry.depth, count)
 }
