@@ -1,11 +1,11 @@
 -- An entry of the log: its words as a chunk; its old words; and by what was read of it, whether it is sound. Assumes nothing.
 use Prim.Native.Nat.{ℕ, zero, suc, ◌+◌, ◌-◌, ◌*◌, ◌/◌, ◌≤◌, ◌<◌}
-use mathlib.Core.Path.{◌≡◌, refl, ap, ◌∙◌}
+use mathlib.Core.Path.{◌≡◌, ap, ◌∙◌}
 use mathlib.Core.Bool.{true, false}
-use mathlib.Core.List.{List, [], ◌∷◌}
+use mathlib.Core.List.{List, ◌∷◌}
 use native.Mathlib.Omega.{arith}
 use lib.Dec.{leb, lit<}
-use lib.ListN.{length, get_or, take, drop, length-drop}
+use lib.ListN.{length, get_or, take, drop, length-drop, length-take}
 use lib.Seq.{paste, length-paste, get_or-take, get_or-drop}
 use borrow.Rule.Slice.PartMut.{put_mid}
 use Rattle.std.specs.Simd.{first_chunks}
@@ -26,14 +26,15 @@ chunk_at m (suc c) (suc k) xs d h =
     let next : m + m * k ≡ m * suc k = omega arith in
     chunk_at m c k (drop m xs) d (omega arith) ∙ ap (take m) (drop-drop (m * k) m xs ∙ ap (λ (i : ℕ). drop i xs) next)
 
-pub entry_read : (log : List ℕ) (n : ℕ) (entries : List (List ℕ)) (e : Entry) → entries ≡ first_chunks 10 (length log / 10) log → entry_at n + 10 ≤ length log
-    → (words : List ℕ) → words ≡ get_or entries n []
+pub entry_read : (log : List ℕ) (n : ℕ) (entries : List (List ℕ)) (e : Entry) → entries ≡ first_chunks 10 (length log / 10) log → n < length log / 10
+    → (words : List ℕ) → words ≡ get_or entries n words
     → e.pc ≡ get_or words 0 0 → e.depth ≡ get_or words 1 0 → e.first ≡ get_or words 2 0 → e.many ≡ get_or words 3 0 → e.old.now ≡ take 6 (drop 4 words) → IsEntry e log (entry_at n)
 entry_read log n entries e chunks h words at pc depth first many old =
-    let chunk : words ≡ take 10 (drop (10 * n) log) = at ∙ rw chunks (chunk_at 10 (length log / 10) n log [] (omega arith)) in
+    let chunk : words ≡ take 10 (drop (10 * n) log) = at ∙ rw chunks (chunk_at 10 (length log / 10) n log words h) in
     let word : (i : ℕ) → i < 10 → get_or words i 0 ≡ get_or log (10 * n + i) 0 = λ i below. rw chunk (get_or-take 10 (drop (10 * n) log) i 0 below ∙ get_or-drop (10 * n) log i 0) in
     let start : 10 * n + 0 ≡ 10 * n = omega arith in
     record {
+      whole = omega arith;
       pc = pc ∙ word 0 (lit< tt) ∙ ap (λ (i : ℕ). get_or log i 0) start;
       depth = depth ∙ word 1 (lit< tt);
       first = first ∙ word 2 (lit< tt);
@@ -42,8 +43,10 @@ entry_read log n entries e chunks h words at pc depth first many old =
     }
 
 -- the old words of an entry, written back
-pub put_back : (slots words : List ℕ) (at many : ℕ) → many ≤ 6 → many ≤ length words → let old = take many (take 6 words) in paste slots at old (length old) ≡ paste slots at words many
-put_back slots words at many few h = rw (take-take many 6 words few, length-take-le many words h, take-take many many words (omega arith)) refl
+pub put_back : (slots words old : List ℕ) (at many : ℕ) → many ≤ length old → old ≡ take 6 words → let back = take many old in paste slots at back (length back) ≡ paste slots at words many
+put_back slots words old at many h is =
+    let few : many ≤ 6 = omega (arith, h, ap length is, length-take 6 words) in
+    rw (length-take-le many old h, take-take many many old (omega arith), is, take-take many 6 words few)
 
 -- the old words of an undo record, copied into an entry over zeros, of which those past them are left
 pub recorded : (slots log : List ℕ) (at pc depth first many : ℕ) (old : List ℕ) → many ≤ 6 → first + many ≤ length slots → old ≡ take (first + many - first) (drop first slots)
@@ -58,6 +61,10 @@ recorded slots log at pc depth first many old few fits h =
     ap (λ (x : List ℕ). paste log at x (length x)) entry ∙ ap (paste log at (undo_record pc depth first many slots)) ten
 
 module _ (log : List ℕ) (k : ℕ) (e : Entry) (is : IsEntry e log k) where
+  -- it has as many old words as places, where these are at most six
+  pub old_many : e.many ≤ 6 → e.many ≤ length e.old.now
+  old_many h = rw (is.old, length-take-le 6 (drop (k + 4) log) (omega (arith, is.whole, length-drop (k + 4) log))) h
+
   -- ---- whether it is sound
 
   module _ (code : List ℕ) (s : State) where
