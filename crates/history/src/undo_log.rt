@@ -1,4 +1,5 @@
 // The undo log: an entry of ten words for each step that can be taken back.
+// `as usize` for a u32 or a u64: `usize` has no `From` of either.
 ghost use Rattle.std.specs.Prelude.{ℕ, List, ◌≡◌, ◌+◌, ◌-◌, ◌/◌, ◌^◌, ◌≤◌, ◌<◌, length};
 ghost use Rattle.std.proofs.Math.Seq.{paste};
 ghost use Rattle.rules.specs.Check.{is_passed};
@@ -79,7 +80,7 @@ impl Entry<'_> {
         self.many == 0 || u64::from(self.first) + u64::from(self.many) <= size
     }
 
-    // Takes the last step back: the old words, the offset and the depth. Where it has no places its first place is not looked at.
+    // Takes the last step back. Where it has no places its first place is not looked at.
     pub(crate) fn restore(self, slots: &mut [u32], s: State) -> State
         requires count_nonzero { 0 < s.count }
         requires count_bound { self.many ≤ length self.old.now }
