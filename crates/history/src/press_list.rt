@@ -13,7 +13,9 @@ use crate::forward_press::{PressResult, forward};
 use frame::write_words;
 use rules::{Method, Pressed, Refusal, State};
 
-// The press of a byte: 0 is back, any other forward.
+// The press of a byte: 0 is back, any other forward. That is the C interface, a byte a press.
+// Method, slots, log and state stay apart, here and in five functions more: a struct of them would hold `&mut` parts, and promise in each contract that it still holds
+// the same.
 fn press(method: &Method, slots: &mut [u32], log: &mut [u32], s: State, byte: u8) -> PressResult
     ensures { pressed result slots.new log.new ≡ press_of (core_machine (lent method.now)) (press_of_byte byte) s slots.old log.old }
 {

@@ -1,10 +1,11 @@
 // The undo log: an entry of ten words for each step that can be taken back.
-ghost use Rattle.std.specs.Prelude.{◌≡◌, ◌+◌, ◌-◌, ◌/◌, ◌^◌, ◌≤◌, ◌<◌, length, get_or};
+// `as usize` for a u32 or a u64: `usize` has no `From` of either.
+ghost use Rattle.std.specs.Prelude.{ℕ, List, ◌≡◌, ◌+◌, ◌-◌, ◌/◌, ◌^◌, ◌≤◌, ◌<◌, length};
 ghost use Rattle.std.proofs.Math.Seq.{paste};
 ghost use Rattle.rules.specs.Check.{is_passed};
 ghost use Rattle.rules.specs.History.{entry_at, undo_record, entry_check, restored};
 ghost use Rattle.frame.specs.Writable.{Writable};
-ghost use Rattle.history.specs.Left.{entry_of, taken_back};
+ghost use Rattle.history.specs.Left.{IsEntry, EntryAt, taken_back};
 
 use frame::write_words;
 use interpreter::moved;
@@ -41,57 +42,55 @@ pub(crate) fn write_entry(slots: &[u32], log: &mut [u32], s: State, u: Update)
     write_words(log, at, &entry);
 }
 
-// An entry but for its old words, which are cut from the log by their place: a pattern `old @ ..` copies an array that is lent, and the borrow checker does not
-// cover that.
+// An entry: where a step began, the places that it wrote, and six words, of which the first are the old ones of those places.
 #[derive(Clone, Copy)]
-struct Entry {
+pub(crate) struct Entry<'a> {
     pc: u32,
     depth: u32,
     first: u32,
     many: u32,
+    old: &'a [u32],
 }
 
-// The first four words of an entry.
-fn read_entry(log: &[u32], n: u64) -> Entry
-    requires { entry_at n + 10 ≤ length log.now }
-    ensures { result ≡ entry_of log.now (entry_at n) }
+// The entry at an index, if the log has all its words.
+pub(crate) fn read_entry(log: &[u32], n: u64) -> Option<Entry<'_>>
+    ensures { EntryAt result log.now (entry_at n) }
 {
     let (entries, _) = log.as_chunks::<ENTRY>();
-    let [pc, depth, first, many, ..] = entries[n as usize];
-    Entry {
+    let entry = entries.get(n as usize)?;
+    let [pc, depth, first, many, ..] = *entry;
+    Some(Entry {
         pc,
         depth,
         first,
         many,
-    }
+        old: &entry[4..],
+    })
 }
 
-// Whether an entry has its offset in the code, its depth at most max_stack, and at most six places, all in the frame.
-pub(crate) fn is_sound(code: &[u8], log: &[u32], s: State, n: u64) -> bool
-    requires { entry_at n + 10 ≤ length log.now }
-    ensures { result ≡ is_passed (entry_check code.now s log.now (entry_at n)) }
-{
-    let entry = read_entry(log, n);
-    if code.len() <= entry.pc as usize || entry.depth > u32::from(s.max_stack) || entry.many > 6 {
-        return false;
+impl Entry<'_> {
+    // Whether it has its offset in the code, its depth at most max_stack, and at most six places, all in the frame.
+    pub(crate) fn is_sound(self, code: &[u8], s: State) -> bool
+        ensures { (log : List ℕ) (k : ℕ) → IsEntry self.entry log k → result ≡ is_passed (entry_check code.now s log k) }
+    {
+        if code.len() <= self.pc as usize || self.depth > u32::from(s.max_stack) || self.many > 6 {
+            return false;
+        }
+        let size = frame_size(s.max_locals, s.max_stack) as u64;
+        self.many == 0 || u64::from(self.first) + u64::from(self.many) <= size
     }
-    let size = frame_size(s.max_locals, s.max_stack) as u64;
-    entry.many == 0 || u64::from(entry.first) + u64::from(entry.many) <= size
-}
 
-// Takes the last step back by its entry: the old words, the offset and the depth. Where it has no places its first place is not looked at.
-pub(crate) fn restore(slots: &mut [u32], log: &[u32], s: State) -> State
-    requires count_nonzero { (0 < s.count) × (entry_at s.count ≤ length log.now) }
-    requires count_bound { get_or log.now (entry_at (s.count - 1) + 3) 0 ≤ 6 }
-    requires count_in_bounds { 0 < get_or log.now (entry_at (s.count - 1) + 3) 0 → get_or log.now (entry_at (s.count - 1) + 2) 0 + get_or log.now (entry_at (s.count - 1) + 3) 0 ≤ length slots.old }
-    ensures { taken_back result slots.new log.now ≡ restored s slots.old log.now (entry_at (s.count - 1)) }
-{
-    let count = s.count - 1;
-    let entry = read_entry(log, count);
-    if entry.many > 0 {
-        let first = entry.first as usize;
-        let old = entry_at(count) + 4;
-        write_words(slots, first, &log[old..old + entry.many as usize]);
+    // Takes the last step back. Where it has no places its first place is not looked at.
+    pub(crate) fn restore(self, slots: &mut [u32], s: State) -> State
+        requires count_nonzero { 0 < s.count }
+        requires count_bound { self.many ≤ length self.old.now }
+        requires count_in_bounds { 0 < self.many → self.first + self.many ≤ length slots.old }
+        ensures { (log : List ℕ) → IsEntry self.entry log (entry_at (s.count - 1)) → taken_back result slots.new log ≡ restored s slots.old log (entry_at (s.count - 1)) }
+    {
+        if self.many > 0 {
+            let first = self.first as usize;
+            write_words(slots, first, &self.old[..self.many as usize]);
+        }
+        moved(s, self.pc, self.depth, s.count - 1)
     }
-    moved(s, entry.pc, entry.depth, count)
 }
