@@ -1,5 +1,5 @@
 // The fields of a line. judge/src/lists/decoding says how a line is laid out.
-ghost use Rattle.std.specs.Prelude.{◌≤◌, ◌<◌};
+ghost use Rattle.std.specs.Prelude.{◌≤◌};
 
 use crate::failures::Failure;
 use reading::hexadecimal;
