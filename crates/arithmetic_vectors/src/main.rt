@@ -4,8 +4,6 @@
 
 mod apply;
 
-ghost use Rattle.std.specs.Prelude.{◌≤◌};
-
 use reading::{hexadecimal, read_record};
 use std::io;
 use vectors::Tally;
@@ -17,10 +15,7 @@ type Line = [u8; 64];
 const MOST: u64 = 1_000_000;
 
 // The number in a field of at most 16 columns. Blanks may stand before the digits, and blanks alone are 0.
-fn number(line: &Line, start: usize, end: usize) -> Option<u64>
-    requires { start ≤ end × end ≤ 64 }
-{
-    let field = &line[start..end];
+fn number(field: &[u8]) -> Option<u64> {
     match field.iter().position(|byte| *byte != b' ') {
         Some(first) => hexadecimal(&field[first..]),
         None => Some(0),
@@ -36,10 +31,10 @@ fn is_laid_out(line: &Line) -> bool {
 
 // Whether a line with its fields holds; none where one is malformed.
 fn fields_hold(line: &Line) -> Option<bool> {
-    let op = u8::try_from(number(line, 0, 2)?).ok()?;
-    let a = number(line, 13, 29)?;
-    let b = number(line, 30, 46)?;
-    let result = number(line, 47, 63)?;
+    let op = u8::try_from(number(&line[..2])?).ok()?;
+    let a = number(&line[13..29])?;
+    let b = number(&line[30..46])?;
+    let result = number(&line[47..63])?;
     Some(apply::holds(op, a, b, result))
 }
 

@@ -1,5 +1,5 @@
 // The fields of a line. judge/src/lists/decoding says how a line is laid out.
-ghost use Rattle.std.specs.Prelude.{◌≤◌, ◌<◌};
+ghost use Rattle.std.specs.Prelude.{◌≤◌};
 
 use crate::failures::Failure;
 use reading::hexadecimal;
@@ -15,21 +15,12 @@ const BYTE: usize = 2;
 const CONSTANT: usize = 10;
 
 // The number in some columns, all of them digits.
-fn value<T: TryFrom<u64>>(columns: &[u8]) -> Result<T, Failure>
+pub(crate) fn number<T: TryFrom<u64>>(columns: &[u8]) -> Result<T, Failure>
 where
     T::Error: Drop,
 {
     let value = hexadecimal(columns).ok_or(Failure::Malformed)?;
     T::try_from(value).map_err(|_| Failure::Malformed)
-}
-
-// The number in a field.
-pub(crate) fn number<T: TryFrom<u64>>(line: &Line, start: usize, end: usize) -> Result<T, Failure>
-where
-    T::Error: Drop,
-    requires { (start ≤ end) × (end ≤ 187) }
-{
-    value(&line[start..end])
 }
 
 // Whether a space stands between the columns, and a line feed at the end.
@@ -41,11 +32,11 @@ pub(crate) fn is_laid_out(line: &Line) -> bool {
 
 // The answer that a line expects: three numbers, or that of a refusal, with which no other goes.
 pub(crate) fn expected(line: &Line) -> Result<Result<[u64; 3], u32>, Failure> {
-    let refusal = number(line, 25, 27)?;
+    let refusal = number(&line[25..27])?;
     let numbers = [
-        number(line, 28, 36)?,
-        number(line, 37, 45)?,
-        number(line, 46, 54)?,
+        number(&line[28..36])?,
+        number(&line[37..45])?,
+        number(&line[46..54])?,
     ];
     match (refusal, numbers) {
         (0, _) => Ok(Ok(numbers)),
@@ -74,7 +65,7 @@ pub(crate) fn code_of(alloc: Global, line: &Line, count: u8) -> Result<Vec<u8>, 
     let (entries, _) = entries(line, count, BYTE)?.as_chunks::<BYTE>();
     let mut code = Vec::new(alloc);
     for columns in entries {
-        code.push(value(columns)?)?;
+        code.push(number(columns)?)?;
     }
     Ok(code)
 }
@@ -87,8 +78,8 @@ pub(crate) fn pool_of(alloc: Global, line: &Line, count: u8) -> Result<Pool, Fai
         words: Vec::new(alloc),
     };
     for columns in entries {
-        pool.kinds.push(value(&columns[..BYTE])?)?;
-        pool.words.push(value(&columns[BYTE..])?)?;
+        pool.kinds.push(number(&columns[..BYTE])?)?;
+        pool.words.push(number(&columns[BYTE..])?)?;
     }
     Ok(pool)
 }

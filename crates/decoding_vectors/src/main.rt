@@ -37,9 +37,9 @@ fn kind_of(line: &Line) -> Option<Kind> {
 
 // Whether a vector of a kind holds. No key goes with an instruction.
 fn vector_holds(alloc: Global, line: &Line, kind: Kind) -> Result<bool, Failure> {
-    let at = number(line, 7, 15)?;
-    let key = number(line, 16, 24)?;
-    let count = number(line, 55, 57)?;
+    let at = number(&line[7..15])?;
+    let key = number(&line[16..24])?;
+    let count = number(&line[55..57])?;
     let answer = match kind {
         Kind::Decode if key != 0 => None,
         Kind::Decode => {

@@ -1,5 +1,5 @@
 // The fields of a line: a sample method and what it is lent.
-ghost use Rattle.std.specs.Prelude.{◌+◌, ◌*◌, ◌≤◌, ◌<◌};
+ghost use Rattle.std.specs.Prelude.{◌<◌};
 
 use reading::digit_value;
 use rules::State;
