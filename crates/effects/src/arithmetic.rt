@@ -57,21 +57,9 @@ pub(crate) fn integer_effect<T: OnStack>(operation: Operation, a: T, b: T, count
         Operation::Add => a.add(b).push(),
         Operation::Sub => a.sub(b).push(),
         Operation::Mul => a.mul(b).push(),
-        // each with its test: with a guard over both it was tried, and a step of the int loop took 0.7 machine instructions more
-        Operation::Div => {
-            if b.is_zero() {
-                Effect::Throw
-            } else {
-                a.div(b).push()
-            }
-        }
-        Operation::Rem => {
-            if b.is_zero() {
-                Effect::Throw
-            } else {
-                a.rem(b).push()
-            }
-        }
+        Operation::Div | Operation::Rem if b.is_zero() => Effect::Throw,
+        Operation::Div => a.div(b).push(),
+        Operation::Rem => a.rem(b).push(),
         Operation::Neg => a.neg().push(),
         Operation::Shl => a.shl(count).push(),
         Operation::Shr => a.shr(count).push(),
