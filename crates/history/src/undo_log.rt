@@ -1,6 +1,6 @@
 // The undo log: an entry of ten words for each step that can be taken back.
 // `as usize` for a u32 or a u64: `usize` has no `From` of either.
-ghost use Rattle.std.specs.Prelude.{ℕ, List, ◌≡◌, ◌+◌, ◌-◌, ◌/◌, ◌^◌, ◌≤◌, ◌<◌, length};
+ghost use Rattle.std.specs.Prelude.{ℕ, List, ◌≡◌, ◌+◌, ◌-◌, ◌/◌, ◌≤◌, ◌<◌, length};
 ghost use Rattle.std.proofs.Math.Seq.{paste};
 ghost use Rattle.rules.specs.Check.{is_passed};
 ghost use Rattle.rules.specs.History.{entry_at, undo_record, entry_check, restored};
@@ -21,14 +21,6 @@ pub(crate) fn entries(log: &[u32]) -> u64
     (log.len() / ENTRY) as u64
 }
 
-// The index of an entry in the log.
-fn entry_at(n: u64) -> usize
-    requires { entry_at n < 2 ^ 64 }
-    ensures { result ≡ entry_at n }
-{
-    ENTRY * n as usize
-}
-
 // Writes the undo record of a step that is to be taken, with the old words of the places that it writes; six words, 0 past those.
 pub(crate) fn write_entry(slots: &[u32], log: &mut [u32], s: State, u: Update)
     requires { Writable u s slots.now × (entry_at s.count + 10 ≤ length log.old) }
@@ -38,7 +30,7 @@ pub(crate) fn write_entry(slots: &[u32], log: &mut [u32], s: State, u: Update)
     let many = u.many as usize;
     let mut entry = [s.pc, s.depth, u.first, u.many, 0, 0, 0, 0, 0, 0];
     entry[4..4 + many].copy_from_slice(&slots[first..first + many]);
-    let at = entry_at(s.count);
+    let at = ENTRY * s.count as usize;
     write_words(log, at, &entry);
 }
 
