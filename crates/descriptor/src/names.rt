@@ -85,7 +85,8 @@ impl<'a> Cursor<'a> {
         })
     }
 
-    // After the class name and its semicolon that begin here, if they do. By `while`: the place where the name ends is wanted, which an iterator over its characters would keep to itself.
+    // After the class name and its semicolon that begin here, if they do.
+    // By `while`: the place where the name ends is wanted, which an iterator over its characters would keep to itself.
     pub(crate) fn class_name(self) -> Option<Cursor<'a>>
         ensures { EndsAt self.entry.descriptor.now (name_end (length self.entry.descriptor.now) self.entry.descriptor.now self.entry.at) result }
     {

@@ -37,7 +37,7 @@ fn check_marked(next: &NextRecord, mark: Mark) -> Result<Reading, Refusal>
 }
 
 // The next record, after what has been read before it.
-// That the code ends before the handlers is no ghost field of Reading, here and in records.rt: a struct that has one takes no `..before`, and definitions would hold its proof.
+// That the code ends before the handlers is no ghost field of Reading, here and in records.rt: with one, `..next.before` is refused, and its definitions would need the proof.
 fn check_record(record: Record, before: Reading) -> Result<Reading, Refusal>
     requires { (before.code + before.code_length ≤ before.handlers) × (before.handlers ≤ record.at) }
     ensures { result ≡ record_check record.entry.sheet.now record.entry.at before }
