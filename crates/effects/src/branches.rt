@@ -14,7 +14,7 @@ pub(crate) fn branch_effect(op: u8, a: u32, b: u32) -> Effect
     requires { is_in branch_opcodes op ≡ true }
     ensures { (constant c d : ℕ) → result ≡ effect_at op constant a b c d }
 {
-    // an arm each: with or-patterns for those of one result it was tried, and a step of the int loop took 1.0 machine instructions more, of tableswitch 1.8
+    // an arm each: with or-patterns for those of one result it was tried, and a step of the tableswitch loop took 1.2 machine instructions more
     match op {
         IFEQ => Effect::Branch(cmpeq(a, 0)),
         IFNE => Effect::Branch(cmpne(a, 0)),
