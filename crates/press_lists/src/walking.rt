@@ -28,7 +28,7 @@ fn print_left(
     answers: &[u32],
 ) -> io::Result<()> {
     print_state(rt, s)?;
-    print_words(rt, "slots", slots)?;
+    print_words(rt, b"slots", slots)?;
     println!(rt; "log {:08X}", checksum(log.iter().copied()))?;
     println!(rt; "words {:08X}", checksum(answers.iter().copied()))
 }
@@ -44,7 +44,7 @@ fn print_presses(
     let (all, _) = answers.as_chunks::<3>();
     let made = &all[..bytes.len().min(all.len())];
     tally.count_list(bytes, made);
-    print_list(rt, "answers", made, |answer| print_answer(rt, answer))
+    print_list(rt, b"answers", made, |answer| print_answer(rt, answer))
 }
 
 // Makes the presses from the sample's offset, depth and count on, on what a load left.

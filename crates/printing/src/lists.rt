@@ -5,13 +5,13 @@ use std::io;
 // Prints items under a name, each as the closure prints it, or a dash where there are none.
 pub fn print_list<T, F: Fn(&T) -> io::Result<()>>(
     rt: &impl Print,
-    name: &str,
+    name: &[u8],
     items: &[T],
     print_item: F,
 ) -> io::Result<()>
     requires { F.IsAlwaysCallable print_item }
 {
-    print!(rt; "{name}")?;
+    rt.write_all(name)?;
     if items.is_empty() {
         print!(rt; " -")?;
     }
@@ -22,7 +22,7 @@ pub fn print_list<T, F: Fn(&T) -> io::Result<()>>(
 }
 
 // Prints words under a name.
-pub fn print_words(rt: &impl Print, name: &str, words: &[u32]) -> io::Result<()> {
+pub fn print_words(rt: &impl Print, name: &[u8], words: &[u32]) -> io::Result<()> {
     print_list(rt, name, words, |word| print!(rt; " {word:08X}"))
 }
 

@@ -10,13 +10,13 @@ use walks::walk;
 const BUDGET: u64 = 60;
 
 // Prints bytes after their name.
-fn print_bytes(rt: &impl Print, name: &str, bytes: &[u8]) -> io::Result<()> {
+fn print_bytes(rt: &impl Print, name: &[u8], bytes: &[u8]) -> io::Result<()> {
     print_list(rt, name, bytes, |byte| print!(rt; " {byte:02X}"))
 }
 
 // Prints slots and a state.
 fn print_frame(rt: &impl Print, slots: &[u32], s: State) -> io::Result<()> {
-    print_words(rt, "slots", slots)?;
+    print_words(rt, b"slots", slots)?;
     print_state(rt, s)
 }
 
@@ -46,11 +46,11 @@ fn print_run(
 
 // Prints what is lent of a sample, its walk, a run, and a run of half the walk, each on slots of its own.
 pub(crate) fn trace(rt: &impl Print, sample: &Sample) -> io::Result<()> {
-    print_bytes(rt, "code", &sample.code)?;
+    print_bytes(rt, b"code", &sample.code)?;
     let pool = &sample.pool;
-    print_list(rt, "kinds", &pool.kinds, |kind| print!(rt; " {kind}"))?;
-    print_words(rt, "words", &pool.words)?;
-    print_bytes(rt, "handlers", &sample.handlers)?;
+    print_list(rt, b"kinds", &pool.kinds, |kind| print!(rt; " {kind}"))?;
+    print_words(rt, b"words", &pool.words)?;
+    print_bytes(rt, b"handlers", &sample.handlers)?;
     let method = Method {
         code: &sample.code,
         kinds: &pool.kinds,
