@@ -2,7 +2,7 @@
 use rules::State;
 use std::io;
 
-// Prints items under a name, each as the closure prints it, or a dash where there are none.
+// Prints items under a name, each as the closure prints it, or a dash where there are none. The name is any bytes, here and of words: text would ask more of the caller.
 pub fn print_list<T, F: Fn(&T) -> io::Result<()>>(
     rt: &impl Print,
     name: &[u8],
