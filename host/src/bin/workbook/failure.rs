@@ -1,0 +1,36 @@
+//! Why a command stops, and the exit status that goes with it.
+
+use std::fmt;
+use std::process::ExitCode;
+
+/// What stops a command. It is told as one sentence on standard error.
+#[derive(Debug, PartialEq, Eq)]
+pub enum Failure {
+    /// The call is not one, or a file is not what is asked for.
+    Call(String),
+    /// A sheet is refused, or an answer is wrong.
+    Wrong(String),
+}
+
+impl Failure {
+    /// A failure of a file, which its name begins.
+    pub fn of_file(name: &str, what: impl fmt::Display) -> Failure {
+        Failure::Call(format!("{name}: {what}"))
+    }
+
+    /// The exit status: 2 for a wrong call or file, 1 for a refused sheet or a wrong answer.
+    pub fn status(&self) -> ExitCode {
+        match self {
+            Failure::Call(_) => ExitCode::from(2),
+            Failure::Wrong(_) => ExitCode::from(1),
+        }
+    }
+}
+
+impl fmt::Display for Failure {
+    fn fmt(&self, f: &mut fmt::Formatter) -> fmt::Result {
+        match self {
+            Failure::Call(what) | Failure::Wrong(what) => f.write_str(what),
+        }
+    }
+}
