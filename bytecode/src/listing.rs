@@ -13,6 +13,7 @@
 
 mod arguments;
 mod instructions;
+mod loads;
 mod source;
 mod value;
 

@@ -1,6 +1,6 @@
-//! The arguments of a sheet by the kinds of its descriptor's parameters.
+//! The arguments of a sheet: by its descriptor's parameters, or else by the loads of its code.
 
-use super::value;
+use super::{loads, value};
 use crate::sheet::Sheet;
 use crate::values::Kind;
 
@@ -17,52 +17,58 @@ impl Argument {
     }
 }
 
-/// A line for each argument of the listing.
+/// A line for each argument of the listing. Where the descriptor does not tell what they are, the
+/// words stand there too.
 pub(super) fn shown(sheet: &Sheet) -> Vec<String> {
     match by_descriptor(sheet) {
-        Some(arguments) => arguments.iter().map(line).collect(),
-        None => {
-            let words = sheet.arguments.iter().enumerate();
-            let line = |(local, word): (usize, &u32)| {
-                format!("local {local}: word {word:08X}, as an int {}", *word as i32)
-            };
-            words.map(line).collect()
+        Some(arguments) => {
+            let line = |one: &Argument| format!("{}: {}", locals(one), named_value(one));
+            arguments.iter().map(line).collect()
         }
+        None => by_loads(sheet).iter().map(line_with_words).collect(),
     }
 }
 
-fn line(argument: &Argument) -> String {
-    let (local, bits, kind) = (argument.local, argument.bits, argument.kind());
-    let locals = match kind.size() {
+fn line_with_words(argument: &Argument) -> String {
+    let (low, high) = (argument.bits as u32, (argument.bits >> 32) as u32);
+    let words = match argument.kind().size() {
+        1 => format!("word {low:08X}"),
+        _ => format!("words {low:08X} {high:08X}"),
+    };
+    let article = if argument.letter == b'I' { "an" } else { "a" };
+    let value = named_value(argument);
+    format!("{}: {words}, as {article} {value}", locals(argument))
+}
+
+fn locals(argument: &Argument) -> String {
+    let local = argument.local;
+    match argument.kind().size() {
         1 => format!("local {local}"),
         _ => format!("locals {local} and {}", local + 1),
-    };
-    let value = match (argument.letter, bits) {
-        (b'L', 0) => "null".to_string(),
-        (b'L', _) => format!("word {bits:08X}"),
-        (b'Z', 0) => "false".to_string(),
-        (b'Z', 1) => "true".to_string(),
-        _ => value::shown(kind, bits),
-    };
-    format!("{locals}: {} {value}", name(argument.letter))
+    }
 }
 
-/// A line for each argument of the source. A word whose kind is not known is an int.
-pub(super) fn said(sheet: &Sheet) -> Vec<String> {
-    let line = |kind: Kind, bits| {
-        let name = super::kind_name(kind);
-        format!("argument {name} {}", value::said(kind, bits))
+/// The name of the type, and the value.
+fn named_value(argument: &Argument) -> String {
+    let value = match (argument.letter, argument.bits) {
+        (b'L', 0) => "null".to_string(),
+        (b'L', bits) => format!("{bits:08X}"),
+        (b'Z', 0) => "false".to_string(),
+        (b'Z', 1) => "true".to_string(),
+        (_, bits) => value::shown(argument.kind(), bits),
     };
-    match by_descriptor(sheet) {
-        Some(arguments) => {
-            let arguments = arguments.iter();
-            arguments.map(|one| line(one.kind(), one.bits)).collect()
-        }
-        None => {
-            let words = sheet.arguments.iter();
-            words.map(|word| line(Kind::Int, (*word).into())).collect()
-        }
-    }
+    format!("{} {value}", name(argument.letter))
+}
+
+/// A line for each argument of the source.
+pub(super) fn said(sheet: &Sheet) -> Vec<String> {
+    let arguments = by_descriptor(sheet).unwrap_or_else(|| by_loads(sheet));
+    let line = |argument: &Argument| {
+        let kind = argument.kind();
+        let value = value::said(kind, argument.bits);
+        format!("argument {} {value}", super::kind_name(kind))
+    };
+    arguments.iter().map(line).collect()
 }
 
 /// The arguments, where the descriptor has parameters that take as many words.
@@ -81,6 +87,27 @@ fn by_descriptor(sheet: &Sheet) -> Option<Vec<Argument>> {
         });
     }
     words.is_empty().then_some(arguments)
+}
+
+/// The arguments as the code first loads them; ints where it does not, or where a word is missing.
+fn by_loads(sheet: &Sheet) -> Vec<Argument> {
+    let letters = loads::letters(&sheet.code);
+    let (mut arguments, mut local) = (vec![], 0);
+    while let Some(low) = sheet.arguments.get(local) {
+        let letter = letters.get(&local).copied().unwrap_or(b'I');
+        let (letter, high) = match (kind_of(letter).size(), sheet.arguments.get(local + 1)) {
+            (1, _) => (letter, 0),
+            (_, Some(high)) => (letter, *high),
+            (_, None) => (b'I', 0),
+        };
+        arguments.push(Argument {
+            local,
+            letter,
+            bits: u64::from(high) << 32 | u64::from(*low),
+        });
+        local += kind_of(letter).size();
+    }
+    arguments
 }
 
 /// The letters of the parameters' types, `L` for an array too. What a load asks besides of a
@@ -158,7 +185,7 @@ mod tests {
             "local 3: boolean true",
             "local 4: boolean 2",
             "local 5: reference null",
-            "local 6: reference word 00000007",
+            "local 6: reference 00000007",
             "locals 7 and 8: double 0.25d",
             "local 9: byte -8",
         ];
@@ -177,13 +204,32 @@ mod tests {
     }
 
     #[test]
-    fn words_that_suit_no_parameters_are_words() {
+    fn words_that_suit_no_parameters_are_as_they_are_loaded() {
         for descriptor in ["(I)V", "(JI)V", "(IQ)V", "(ILA)V", "II", "(II", ""] {
+            let mut sheet = sheet(descriptor, &[5, 0x3F80_0000, u32::MAX, 0, 7, 8]);
             let lines = [
                 "local 0: word 00000005, as an int 5",
-                "local 1: word FFFFFFFF, as an int -1",
+                "local 1: word 3F800000, as an int 1065353216",
             ];
-            assert_eq!(shown(&sheet(descriptor, &[5, u32::MAX])), lines);
+            assert_eq!(shown(&sheet)[..2], lines);
+            // fload_1; lload_2; aload 4; dload 5, of which the second word is missing.
+            sheet.code = vec![0x23, 0x20, 0x19, 4, 0x18, 5];
+            let lines = [
+                "local 0: word 00000005, as an int 5",
+                "local 1: word 3F800000, as a float 1.0f",
+                "locals 2 and 3: words FFFFFFFF 00000000, as a long 4294967295L",
+                "local 4: word 00000007, as a reference 00000007",
+                "local 5: word 00000008, as an int 8",
+            ];
+            assert_eq!(shown(&sheet), lines);
+            let lines = [
+                "argument int 5",
+                "argument float 1.0",
+                "argument long 4294967295",
+                "argument int 7",
+                "argument int 8",
+            ];
+            assert_eq!(said(&sheet), lines);
         }
     }
 }
