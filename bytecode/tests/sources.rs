@@ -93,3 +93,37 @@ fn random_bytes_come_back() {
         assert_eq!(sheet(&source_of_bytes(&bytes)), Ok(bytes));
     }
 }
+
+#[test]
+fn a_source_has_labels_where_one_may_stand() {
+    // A handler up to the end of the code; a jump into an instruction and one out of the code; bytes
+    // that are no instruction; a switch whose padding is not looked at; an instruction cut off.
+    let text = "# A method as its sheet has it.
+max_stack 2
+max_locals 1
+descriptor (F)V
+constant 2 float hFFC00001
+constant 4 class no
+handler L0 L50 L5 any
+handler 1 L50 500 4
+argument float 0.1
+code
+L0:
+    sipush 300
+    nop
+    # unknown byte 186
+    bytes BA
+L5:
+    ifeq L0
+    ifeq -6
+    goto_w +100000
+    # lookupswitch, not padded with zeros
+    bytes AB 00 01 00 00 00 00 00 00 00 00 00
+    tableswitch 7 L0 default L50
+    # goto (cut off by the end of the code)
+    bytes A7 00
+L50:
+";
+    let bytes = sheet(text).unwrap();
+    assert_eq!(source_of_bytes(&bytes), text);
+}
