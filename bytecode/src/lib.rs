@@ -3,17 +3,24 @@
 //! judge has its samples in this syntax.
 //!
 //! - [`instructions`]: the 164 instructions of the core, with their names, operands and lengths.
+//! - [`decoded`]: the instructions of a code, one after the other.
 //! - [`mnemonics`]: an instruction of a code as text.
 //! - [`assembler`]: the code of a listing.
 //! - [`records`]: the records of a sheet.
+//! - [`sheet`]: what the records of a sheet say.
+//! - [`listing`]: a sheet as text, to read, and as a source.
 //! - [`source`]: the sheet of a method that is written as text.
 //! - [`values`]: values as they are written, and their words.
 
 #![forbid(unsafe_code)]
 
 pub mod assembler;
+pub mod decoded;
 pub mod instructions;
+pub mod listing;
 pub mod mnemonics;
+mod reader;
 pub mod records;
+pub mod sheet;
 pub mod source;
 pub mod values;

@@ -2,6 +2,7 @@
 //! code itself and decides what is refused.
 
 use crate::instructions::{of_opcode, widened, Operands};
+use crate::reader::Reader;
 
 /// The instruction at an offset as text: its name, then its operands in decimal, the targets of
 /// branches as offsets in the code. Where there is no whole instruction, the text says so.
@@ -14,7 +15,7 @@ pub fn instruction(code: &[u8], pc: u32) -> String {
     let Some(found) = of_opcode(opcode) else {
         return format!("unknown byte {opcode}");
     };
-    let mut reader = Reader { code, at: at + 1 };
+    let mut reader = Reader::new(code, at + 1);
     match text_of(found.operands, &mut reader, i64::from(pc)) {
         Some(text) => format!("{}{text}", found.name),
         None => format!("{} (cut off by the end of the code)", found.name),
@@ -88,50 +89,4 @@ fn lookup_switch(reader: &mut Reader, pc: i64) -> Option<String> {
 
 fn default_text(distance: i32, pc: i64) -> String {
     format!(" default: {}", pc + i64::from(distance))
-}
-
-/// Reads big-endian numbers, as long as the code has their bytes.
-struct Reader<'a> {
-    code: &'a [u8],
-    at: usize,
-}
-
-impl Reader<'_> {
-    fn bytes<const N: usize>(&mut self) -> Option<[u8; N]> {
-        let bytes = *self.code.get(self.at..)?.first_chunk()?;
-        self.at += N;
-        Some(bytes)
-    }
-
-    fn u8(&mut self) -> Option<u8> {
-        self.bytes().map(u8::from_be_bytes)
-    }
-
-    fn i8(&mut self) -> Option<i8> {
-        self.bytes().map(i8::from_be_bytes)
-    }
-
-    fn u16(&mut self) -> Option<u16> {
-        self.bytes().map(u16::from_be_bytes)
-    }
-
-    fn i16(&mut self) -> Option<i16> {
-        self.bytes().map(i16::from_be_bytes)
-    }
-
-    fn i32(&mut self) -> Option<i32> {
-        self.bytes().map(i32::from_be_bytes)
-    }
-
-    /// Goes to the next multiple of 4, where the operands of a switch begin.
-    fn align(&mut self) {
-        self.at = self.at.next_multiple_of(4);
-    }
-
-    /// Whether the code has so many bytes more. A table is asked for as a whole before it is read,
-    /// because its length is a number in the code and may be anything.
-    fn has(&self, length: i64) -> bool {
-        let left = self.code.len().saturating_sub(self.at);
-        usize::try_from(length).is_ok_and(|length| length <= left)
-    }
 }

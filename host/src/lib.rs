@@ -48,7 +48,9 @@ mod walk;
 #[allow(unsafe_code)]
 pub mod ffi;
 
-pub use bytecode::{assembler, instructions, mnemonics, records, source, values};
+pub use bytecode::{
+    assembler, decoded, instructions, listing, mnemonics, records, sheet, source, values,
+};
 
 pub use answers::{Answer, End, Ran, Value};
 pub use calls::{back, forward, load, presses, run, step};

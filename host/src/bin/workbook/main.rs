@@ -4,6 +4,9 @@
 
 mod failure;
 mod input;
+mod opcodes;
+mod output;
+mod show;
 
 use failure::Failure;
 use std::process::ExitCode;
@@ -33,6 +36,8 @@ fn main() -> ExitCode {
 /// Does what the words of a call say.
 fn command(words: &[String]) -> Result<(), Failure> {
     match words.first().map(String::as_str) {
+        Some("opcodes") => opcodes::opcodes(&words[1..]),
+        Some("show") => show::show(&words[1..]),
         _ => Err(Failure::Call(USAGE.to_string())),
     }
 }

@@ -1,0 +1,21 @@
+//! What a command prints on standard output.
+
+use crate::failure::Failure;
+use std::io::{self, ErrorKind, Write};
+
+/// Prints a text. A reader that has read enough, as `head` does, is no failure.
+pub fn print(text: &str) -> Result<(), Failure> {
+    let mut stdout = io::stdout().lock();
+    let written = stdout
+        .write_all(text.as_bytes())
+        .and_then(|()| stdout.flush());
+    match written {
+        Err(error) if error.kind() != ErrorKind::BrokenPipe => {
+            let text = error.to_string();
+            let what = text.split(" (os error").next().unwrap_or("");
+            let what = format!("standard output cannot be written: {what}");
+            Err(Failure::Call(what))
+        }
+        _ => Ok(()),
+    }
+}
