@@ -7,13 +7,17 @@
 //! - [`assembler`]: the code of a listing.
 //! - [`records`]: the records of a sheet.
 //! - [`source`]: the sheet of a method that is written as text.
+//! - [`error`]: what is wrong in a source or a listing, and in which line.
+//! - [`suggestion`]: names that are close to a wrong one.
 //! - [`values`]: values as they are written, and their words.
 
 #![forbid(unsafe_code)]
 
 pub mod assembler;
+pub mod error;
 pub mod instructions;
 pub mod mnemonics;
 pub mod records;
 pub mod source;
+pub mod suggestion;
 pub mod values;
