@@ -49,6 +49,7 @@ mod walk;
 pub mod ffi;
 
 pub use bytecode::{assembler, instructions, mnemonics, records, source, values};
+pub use bytecode::{error, suggestion};
 
 pub use answers::{Answer, End, Ran, Value};
 pub use calls::{back, forward, load, presses, run, step};
