@@ -10,12 +10,15 @@
 //! - [`sheet`]: what the records of a sheet say.
 //! - [`listing`]: a sheet as text, to read, and as a source.
 //! - [`source`]: the sheet of a method that is written as text.
+//! - [`error`]: what is wrong in a source or a listing, and in which line.
+//! - [`suggestion`]: names that are close to a wrong one.
 //! - [`values`]: values as they are written, and their words.
 
 #![forbid(unsafe_code)]
 
 pub mod assembler;
 pub mod decoded;
+pub mod error;
 pub mod instructions;
 pub mod listing;
 pub mod mnemonics;
@@ -23,4 +26,5 @@ mod reader;
 pub mod records;
 pub mod sheet;
 pub mod source;
+pub mod suggestion;
 pub mod values;

@@ -1,5 +1,7 @@
 //! Values as they are written, and their words.
 
+use crate::error::shown;
+
 /// The kinds of constants and arguments.
 #[derive(Clone, Copy, Debug, PartialEq, Eq)]
 pub enum Kind {
@@ -24,6 +26,17 @@ impl Kind {
             "double" => Kind::Double,
             _ => return None,
         })
+    }
+
+    /// Its name.
+    #[must_use]
+    pub fn name(self) -> &'static str {
+        match self {
+            Kind::Int => "int",
+            Kind::Float => "float",
+            Kind::Long => "long",
+            Kind::Double => "double",
+        }
     }
 
     /// The tag of a constant of this kind, as in JVMS 4.4.
@@ -53,7 +66,29 @@ impl Kind {
             Some(digits) => bits_of_digits(digits, 8 * self.size()),
             None => self.bits_of_decimal(value),
         };
-        found.ok_or_else(|| format!("{value} is no {self:?}").to_lowercase())
+        found.ok_or_else(|| {
+            let (value, hint) = (shown(value), self.hint(value));
+            format!("{value} is no {}{hint}", self.name())
+        })
+    }
+
+    /// The end of a sentence on a value that is none, where it is close to one.
+    fn hint(self, value: &str) -> String {
+        if let Some(digits) = value.strip_prefix('h') {
+            if digits.bytes().any(|digit| digit.is_ascii_hexdigit()) {
+                return format!("; {} hexadecimal digits stand after the h", 8 * self.size());
+            }
+        }
+        let digits = value.strip_prefix(['+', '-']).unwrap_or(value);
+        let whole = !digits.is_empty() && digits.bytes().all(|digit| digit.is_ascii_digit());
+        match self {
+            Kind::Int if whole => format!("; an int is {} to {}", i32::MIN, i32::MAX),
+            Kind::Long if whole => format!("; a long is {} to {}", i64::MIN, i64::MAX),
+            Kind::Float | Kind::Double if digits.eq_ignore_ascii_case("nan") => {
+                "; a NaN is given by its bits, an h and hexadecimal digits".to_string()
+            }
+            _ => String::new(),
+        }
     }
 
     fn bits_of_decimal(self, value: &str) -> Option<u64> {
@@ -92,7 +127,7 @@ pub fn bytes(digits: &str) -> Result<Vec<u8>, String> {
     let byte =
         |pair: &[u8]| bits_of_digits(std::str::from_utf8(pair).ok()?, 2).map(|byte| byte as u8);
     let bytes: Option<Vec<u8>> = pairs.map(byte).collect();
-    bytes.ok_or_else(|| format!("{digits} are no bytes in hexadecimal"))
+    bytes.ok_or_else(|| format!("{} are no bytes in hexadecimal", shown(digits)))
 }
 
 #[cfg(test)]
@@ -129,6 +164,32 @@ mod tests {
         ] {
             assert!(kind.bits(value).is_err(), "{value}");
         }
-        assert_eq!(Kind::Int.bits("x"), Err("x is no int".to_string()));
+        for (kind, value, what) in [
+            (Kind::Int, "x", "x is no int"),
+            (Kind::Int, "Hello", "Hello is no int"),
+            (
+                Kind::Int,
+                "3000000000",
+                "3000000000 is no int; an int is -2147483648 to 2147483647",
+            ),
+            (
+                Kind::Long,
+                "9223372036854775808",
+                "9223372036854775808 is no long; \
+                 a long is -9223372036854775808 to 9223372036854775807",
+            ),
+            (
+                Kind::Double,
+                "h7FC00000",
+                "h7FC00000 is no double; 16 hexadecimal digits stand after the h",
+            ),
+            (
+                Kind::Float,
+                "NaN",
+                "NaN is no float; a NaN is given by its bits, an h and hexadecimal digits",
+            ),
+        ] {
+            assert_eq!(kind.bits(value), Err(what.to_string()));
+        }
     }
 }

@@ -48,9 +48,8 @@ mod walk;
 #[allow(unsafe_code)]
 pub mod ffi;
 
-pub use bytecode::{
-    assembler, decoded, instructions, listing, mnemonics, records, sheet, source, values,
-};
+pub use bytecode::{assembler, decoded, error, instructions, listing, mnemonics};
+pub use bytecode::{records, sheet, source, suggestion, values};
 
 pub use answers::{Answer, End, Ran, Value};
 pub use calls::{back, forward, load, presses, run, step};

@@ -18,6 +18,14 @@ fn names(folder: &Path) -> io::Result<Vec<String>> {
     Ok(names)
 }
 
+/// The sheet of a sample. Its first line is a comment that says what it shows.
+fn sheet(source: &str) -> Result<Vec<u8>, String> {
+    if !source.starts_with("# ") {
+        return Err("the first line is no comment".to_string());
+    }
+    Ok(source::sheet(source)?)
+}
+
 /// The files of the sources. A file without a source is an error.
 pub fn files(root: &Path) -> Result<Vec<File>, String> {
     let (folder, mut files) = (root.join("samples"), vec![]);
@@ -25,9 +33,7 @@ pub fn files(root: &Path) -> Result<Vec<File>, String> {
     for name in names.iter().filter_map(|name| name.strip_suffix(".txt")) {
         let path = folder.join(format!("{name}.txt"));
         let text = fs::read_to_string(&path).map_err(|what| what.to_string());
-        let sheet = text
-            .and_then(|text| source::sheet(&text))
-            .map_err(about(name))?;
+        let sheet = text.and_then(|text| sheet(&text)).map_err(about(name))?;
         let out = joined(printed(&sheet));
         if name == "printed" {
             // The sheet of docs/RULES.md is the program's own sample.

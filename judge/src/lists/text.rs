@@ -54,7 +54,7 @@ pub fn listing(text: &str) -> String {
 
 /// The code of a listing.
 pub fn code(text: &str) -> Result<Vec<u8>, String> {
-    assemble(&listing(text))
+    Ok(assemble(&listing(text))?)
 }
 
 /// The records of handlers, each START,END,HANDLER,TYPE as a source has them (bytecode/src/source.rs).

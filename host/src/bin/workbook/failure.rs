@@ -1,7 +1,7 @@
 //! Why a command stops, and the exit status that goes with it.
 
-use std::fmt;
 use std::process::ExitCode;
+use std::{fmt, io};
 
 /// What stops a command. It is told as one sentence on standard error.
 #[derive(Debug, PartialEq, Eq)]
@@ -25,6 +25,12 @@ impl Failure {
             Failure::Wrong(_) => ExitCode::from(1),
         }
     }
+}
+
+/// What the system says of an error, without its number.
+pub fn said(error: &io::Error) -> String {
+    let text = error.to_string();
+    text.split(" (os error").next().unwrap_or("").to_string()
 }
 
 impl fmt::Display for Failure {

@@ -1,6 +1,6 @@
 //! A file as it is given: a source, a sheet or a class file, known by its first bytes.
 
-use crate::failure::Failure;
+use crate::failure::{said, Failure};
 use std::fs;
 use std::io::{self, Read};
 
@@ -29,7 +29,7 @@ pub fn read(name: &str) -> Result<Input, Failure> {
     } else {
         fs::File::open(name).and_then(|file| {
             if file.metadata()?.is_dir() {
-                return Err(io::Error::new(io::ErrorKind::Other, "is a folder, not a file"));
+                return Err(io::Error::other("is a folder, not a file"));
             }
             bytes_of(file)
         })
@@ -44,15 +44,12 @@ fn bytes_of(file: impl Read) -> io::Result<Vec<u8>> {
     Ok(bytes)
 }
 
-/// What the system says, without its number.
+/// Why a file is not read.
 fn sentence(error: &io::Error) -> String {
     match error.kind() {
         io::ErrorKind::NotFound => "there is no such file".to_string(),
         io::ErrorKind::PermissionDenied => "may not be read".to_string(),
-        _ => {
-            let text = error.to_string();
-            text.split(" (os error").next().unwrap_or("").to_string()
-        }
+        _ => said(error),
     }
 }
 
@@ -70,7 +67,7 @@ fn known(bytes: Vec<u8>) -> Result<Input, String> {
     if bytes.starts_with(b"LM\0") {
         return Ok(Input::Sheet(bytes));
     }
-    String::from_utf8(bytes)
-        .map(Input::Source)
-        .map_err(|_| "is no text in UTF-8, and begins neither as a sheet nor as a class file".to_string())
+    String::from_utf8(bytes).map(Input::Source).map_err(|_| {
+        "is no text in UTF-8, and begins neither as a sheet nor as a class file".to_string()
+    })
 }

@@ -4,6 +4,7 @@
 
 mod failure;
 mod input;
+mod make;
 mod opcodes;
 mod output;
 mod show;
@@ -11,8 +12,15 @@ mod show;
 use failure::Failure;
 use std::process::ExitCode;
 use std::{env, ffi::OsString};
+use workbook_host::suggestion::closest;
 
-const USAGE: &str = "usage: workbook COMMAND ...";
+const USAGE: &str = "usage: workbook COMMAND ...
+
+    make FILE [-o SHEET]     the sheet of a source
+    show FILE [--source]     the listing of a source or a sheet, or its source
+    opcodes                  the page of opcodes, with their names";
+
+const COMMANDS: [&str; 3] = ["make", "opcodes", "show"];
 
 fn main() -> ExitCode {
     let words: Result<Vec<String>, OsString> =
@@ -36,8 +44,13 @@ fn main() -> ExitCode {
 /// Does what the words of a call say.
 fn command(words: &[String]) -> Result<(), Failure> {
     match words.first().map(String::as_str) {
+        Some("make") => make::make(&words[1..]),
         Some("opcodes") => opcodes::opcodes(&words[1..]),
         Some("show") => show::show(&words[1..]),
-        _ => Err(Failure::Call(USAGE.to_string())),
+        Some(word) => Err(Failure::Call(match closest(word, COMMANDS) {
+            Some(name) => format!("there is no command {word}; did you mean {name}?"),
+            None => format!("there is no command {word}; {USAGE}"),
+        })),
+        None => Err(Failure::Call(USAGE.to_string())),
     }
 }

@@ -1,6 +1,6 @@
 //! What a command prints on standard output.
 
-use crate::failure::Failure;
+use crate::failure::{said, Failure};
 use std::io::{self, ErrorKind, Write};
 
 /// Prints a text. A reader that has read enough, as `head` does, is no failure.
@@ -11,9 +11,7 @@ pub fn print(text: &str) -> Result<(), Failure> {
         .and_then(|()| stdout.flush());
     match written {
         Err(error) if error.kind() != ErrorKind::BrokenPipe => {
-            let text = error.to_string();
-            let what = text.split(" (os error").next().unwrap_or("");
-            let what = format!("standard output cannot be written: {what}");
+            let what = format!("standard output cannot be written: {}", said(&error));
             Err(Failure::Call(what))
         }
         _ => Ok(()),

@@ -2,8 +2,9 @@
 
 use crate::failure::Failure;
 use crate::input::{self, Input};
+use crate::make::of_source;
 use crate::output::print;
-use workbook_host::{listing, source, Walk};
+use workbook_host::{listing, Walk};
 
 const USAGE: &str = "usage: workbook show FILE [--source]";
 
@@ -13,7 +14,7 @@ pub fn show(words: &[String]) -> Result<(), Failure> {
     let (name, as_source) = call(words)?;
     let bytes = match input::read(name)? {
         Input::Sheet(bytes) => bytes,
-        Input::Source(text) => source::sheet(&text).map_err(|what| Failure::of_file(name, what))?,
+        Input::Source(text) => of_source(name, &text)?,
         Input::Class(_) => {
             let what = "is a class file, which the program javap shows: javap -c -v";
             return Err(Failure::of_file(name, what));
