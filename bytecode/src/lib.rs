@@ -6,13 +6,19 @@
 //! - [`mnemonics`]: an instruction of a code as text.
 //! - [`assembler`]: the code of a listing.
 //! - [`records`]: the records of a sheet.
+//! - [`class`]: a class file, and the sheet of a static method in it.
+//! - [`descriptor`]: a method descriptor as types.
+//! - [`literals`]: Java's literals as words.
 //! - [`source`]: the sheet of a method that is written as text.
 //! - [`values`]: values as they are written, and their words.
 
 #![forbid(unsafe_code)]
 
 pub mod assembler;
+pub mod class;
+pub mod descriptor;
 pub mod instructions;
+pub mod literals;
 pub mod mnemonics;
 pub mod records;
 pub mod source;
