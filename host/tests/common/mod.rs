@@ -3,6 +3,7 @@
 // Each test program has its own copy and uses a part of it.
 #![allow(dead_code)]
 
+pub mod java;
 // The judge's fuzz program has these two too.
 pub mod memory;
 pub mod random;
