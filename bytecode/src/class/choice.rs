@@ -1,6 +1,10 @@
 //! Which method of a class a user means.
 
-use super::{Class, Method};
+use super::{text, Class, Method};
+use std::collections::HashSet;
+
+/// The most names that a sentence lists.
+const MOST_NAMES: usize = 30;
 
 /// The static method that a name means, or a name with its descriptor: `add`, `add(II)I`.
 ///
@@ -8,19 +12,17 @@ use super::{Class, Method};
 ///
 /// A sentence, where none or several are meant, or the one that is meant is not static.
 pub fn choose<'a, 'b>(class: &'a Class<'b>, wanted: &str) -> Result<&'a Method<'b>, String> {
-    let named = wanted.find('(').map_or(wanted, |at| &wanted[..at]);
+    let (named, descriptor) = wanted.split_at(wanted.find('(').unwrap_or(wanted.len()));
+    let (name, exact) = (text::encode(named), text::encode(descriptor));
     let methods = class.methods.iter();
-    let of_name: Vec<&Method> = methods.filter(|method| method.name == named).collect();
+    let of_name: Vec<&Method> = methods.filter(|method| method.name == name).collect();
     if of_name.is_empty() {
         return Err(no_such_name(class, named));
     }
-    let meant: Vec<&Method> = if named.len() == wanted.len() {
-        of_name.clone()
-    } else {
-        let exact = of_name.iter().filter(|method| method.signature() == wanted);
-        exact.copied().collect()
-    };
-    let statics: Vec<&Method> = meant.iter().copied().filter(|m| m.is_static()).collect();
+    let mut meant = of_name.clone();
+    meant.retain(|method| exact.is_empty() || method.descriptor == exact);
+    let mut statics = meant.clone();
+    statics.retain(|method| method.is_static());
     match (&statics[..], &meant[..]) {
         ([one], _) => Ok(one),
         ([], []) => Err(format!(
@@ -40,45 +42,58 @@ pub fn choose<'a, 'b>(class: &'a Class<'b>, wanted: &str) -> Result<&'a Method<'
 
 /// The names of the static methods that have code, each once, in the order of the file.
 #[must_use]
-pub fn static_methods<'a>(class: &'a Class) -> Vec<&'a str> {
+pub fn static_methods(class: &Class) -> Vec<String> {
+    let mut met = HashSet::new();
     let mut names = vec![];
     for method in &class.methods {
-        let name = method.name.as_str();
         // A name with a < is none that a source can have: the initialization of the class.
-        if method.is_static()
-            && method.code.is_some()
-            && !name.contains('<')
-            && !names.contains(&name)
-        {
-            names.push(name);
+        let named = method.is_static() && method.code.is_some() && !method.name.starts_with(b"<");
+        if named && met.insert(method.name) {
+            names.push(method.name_text());
         }
     }
     names
 }
 
+/// Names of methods as a sentence lists them.
+#[must_use]
+pub fn listed(names: &[String]) -> String {
+    match names.split_at_checked(MOST_NAMES) {
+        Some((first, [_, ..])) => {
+            let more = names.len() - MOST_NAMES;
+            format!("{} and {more} more", first.join(", "))
+        }
+        _ => names.join(", "),
+    }
+}
+
 /// Names and descriptors in quotes, as a shell asks for them.
 fn signatures(methods: &[&Method]) -> String {
-    let signatures = methods
-        .iter()
-        .map(|method| format!("'{}'", method.signature()));
-    signatures.collect::<Vec<_>>().join(", ")
+    // Only what is listed is written out: a file may have very many very long names.
+    let quoted = |method: &&Method| format!("'{}'", method.signature());
+    let mut all: Vec<String> = methods.iter().take(MOST_NAMES).map(quoted).collect();
+    all.resize(methods.len(), String::new());
+    listed(&all)
 }
 
 fn no_such_name(class: &Class, named: &str) -> String {
     let names = static_methods(class);
     // A third of the letters may be wrong, and one of two.
     let most = named.chars().count().div_ceil(3);
-    let distances = names.iter().map(|name| (distance(name, named), name));
+    let possible = names
+        .iter()
+        .filter(|name| name.len() < 4 * (named.len() + 1));
+    let distances = possible.map(|name| (distance(name, named), name));
     let near = distances.filter(|(distance, _)| *distance <= most).min();
     match near {
         Some((_, name)) => format!("there is no method {named}; is {name} meant?"),
         None if names.is_empty() => {
             format!("there is no method {named}, and no static method with code")
         }
-        None => format!(
-            "there is no method {named}; the static methods are {}",
-            names.join(", ")
-        ),
+        None => {
+            let names = listed(&names);
+            format!("there is no method {named}; the static methods are {names}")
+        }
     }
 }
 
@@ -150,6 +165,14 @@ mod tests {
         ] {
             assert_eq!(chosen(wanted), Err(what.to_string()), "{wanted}");
         }
+    }
+
+    #[test]
+    fn a_list_has_an_end() {
+        let names = |many: usize| (0..many).map(|n| format!("m{n}")).collect::<Vec<_>>();
+        assert_eq!(listed(&names(2)), "m0, m1");
+        assert!(listed(&names(30)).ends_with(", m28, m29"));
+        assert!(listed(&names(32)).ends_with(", m28, m29 and 2 more"));
     }
 
     #[test]

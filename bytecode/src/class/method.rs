@@ -10,8 +10,8 @@ const MOST_CODE: u32 = 65_535;
 /// A method.
 #[derive(Clone, Debug, PartialEq, Eq)]
 pub struct Method<'a> {
-    /// Its name.
-    pub name: String,
+    /// Its name, in modified UTF-8.
+    pub name: &'a [u8],
     /// Its descriptor, in modified UTF-8.
     pub descriptor: &'a [u8],
     /// Its access flags (JVMS, table 4.6-A).
@@ -21,6 +21,12 @@ pub struct Method<'a> {
 }
 
 impl Method<'_> {
+    /// Its name as text.
+    #[must_use]
+    pub fn name_text(&self) -> String {
+        text::decode(self.name)
+    }
+
     /// Its descriptor as text.
     #[must_use]
     pub fn descriptor_text(&self) -> String {
@@ -30,7 +36,7 @@ impl Method<'_> {
     /// Its name and its descriptor.
     #[must_use]
     pub fn signature(&self) -> String {
-        self.name.clone() + &self.descriptor_text()
+        self.name_text() + &self.descriptor_text()
     }
 
     /// Whether it is static (ACC_STATIC).
@@ -70,7 +76,7 @@ pub(super) fn methods<'a>(
 
 fn method<'a>(reader: &mut Reader<'a>, pool: &Pool<'a>) -> Result<Method<'a>, String> {
     let flags = reader.u16()?;
-    let name = text::decode(pool.utf8(reader.u16()?)?);
+    let name = pool.utf8(reader.u16()?)?;
     let descriptor = pool.utf8(reader.u16()?)?;
     let mut code = None;
     for _ in 0..reader.u16()? {
@@ -78,9 +84,9 @@ fn method<'a>(reader: &mut Reader<'a>, pool: &Pool<'a>) -> Result<Method<'a>, St
         let mut body = attribute_body(reader)?;
         if attribute == b"Code" {
             if code.is_some() {
-                return Err(damaged(&name, "has two codes"));
+                return Err(damaged(name, "has two codes"));
             }
-            code = Some(code_of(&mut body, &name)?);
+            code = Some(code_of(&mut body, name)?);
         }
     }
     Ok(Method {
@@ -91,7 +97,7 @@ fn method<'a>(reader: &mut Reader<'a>, pool: &Pool<'a>) -> Result<Method<'a>, St
     })
 }
 
-fn code_of<'a>(reader: &mut Reader<'a>, name: &str) -> Result<Code<'a>, String> {
+fn code_of<'a>(reader: &mut Reader<'a>, name: &[u8]) -> Result<Code<'a>, String> {
     let (max_stack, max_locals) = (reader.u16()?, reader.u16()?);
     let length = reader.u32()?;
     if length > MOST_CODE {
@@ -129,6 +135,7 @@ fn attribute_body<'a>(reader: &mut Reader<'a>) -> Result<Reader<'a>, String> {
     reader.part(usize::try_from(length).unwrap_or(usize::MAX))
 }
 
-fn damaged(name: &str, what: &str) -> String {
+fn damaged(name: &[u8], what: &str) -> String {
+    let name = text::decode(name);
     format!("the class file is damaged: method {name} {what}")
 }

@@ -2,7 +2,7 @@
 //! pool, the methods and their code. Any bytes are met by an answer, a class or a sentence.
 //!
 //! - [`read`] gives the class.
-//! - [`choose`] finds the method that a user names.
+//! - [`choose`] finds the method that a user names, [`static_methods`] names all that there are.
 //! - [`sheet`] gives the sheet of it, with arguments.
 
 mod choice;
@@ -17,7 +17,7 @@ mod usage;
 #[cfg(test)]
 mod example;
 
-pub use choice::{choose, static_methods};
+pub use choice::{choose, listed, static_methods};
 pub use method::{Code, Method};
 pub use pool::{Constant, Pool};
 pub use sheet::sheet;
@@ -53,7 +53,7 @@ pub fn read(bytes: &[u8]) -> Result<Class<'_>, String> {
     let pool = Pool::read(&mut reader)?;
     // The access flags of the class.
     reader.u16()?;
-    let name = pool.class_name(reader.u16()?)?.replace('/', ".");
+    let name = text::decode(pool.class_name(reader.u16()?)?).replace('/', ".");
     // The class above it.
     reader.u16()?;
     for _ in 0..reader.u16()? {

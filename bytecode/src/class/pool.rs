@@ -1,7 +1,6 @@
 //! The constant pool of a class file (JVMS 4.4).
 
 use super::reader::Reader;
-use super::text;
 
 /// A constant, as far as methods of a sheet need it.
 #[derive(Clone, Copy, Debug, PartialEq, Eq)]
@@ -98,14 +97,15 @@ impl<'a> Pool<'a> {
         }
     }
 
-    /// The name of the class at an index, as the class file has it: `java/lang/Object`.
+    /// The name of the class at an index, in modified UTF-8 and as the class file has it:
+    /// `java/lang/Object`.
     ///
     /// # Errors
     ///
     /// Where there is none.
-    pub fn class_name(&self, index: u16) -> Result<String, String> {
+    pub fn class_name(&self, index: u16) -> Result<&'a [u8], String> {
         match self.get(index) {
-            Some(Constant::Class(name)) => self.utf8(name).map(text::decode),
+            Some(Constant::Class(name)) => self.utf8(name),
             _ => Err(damaged(index.into(), "is no class, and should be one")),
         }
     }

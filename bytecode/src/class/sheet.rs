@@ -10,11 +10,11 @@ use std::collections::BTreeMap;
 const CLASS: u8 = 7;
 
 /// The classes that an ArithmeticException can be assigned to.
-const OF_ARITHMETIC: [&str; 4] = [
-    "java/lang/ArithmeticException",
-    "java/lang/RuntimeException",
-    "java/lang/Exception",
-    "java/lang/Throwable",
+const OF_ARITHMETIC: [&[u8]; 4] = [
+    b"java/lang/ArithmeticException",
+    b"java/lang/RuntimeException",
+    b"java/lang/Exception",
+    b"java/lang/Throwable",
 ];
 
 /// The sheet of a static method with its arguments, which are Java's literals in the order of its
@@ -81,7 +81,7 @@ fn arguments(label: &str, method: &Method, texts: &[String]) -> Result<Vec<u32>,
 
 /// A method as messages name it.
 fn label(class: &Class, method: &Method) -> String {
-    format!("{}.{}", class.name, method.name)
+    format!("{}.{}", class.name, method.name_text())
 }
 
 /// The records of the constants that a code uses, by rising index.
@@ -97,7 +97,7 @@ fn constants(code: &Code, pool: &Pool) -> Result<BTreeMap<u16, Vec<u8>>, String>
     // Catch type 0 names no class: its handler takes everything.
     for &[.., catch_type] in code.handlers.iter().filter(|fields| fields[3] != 0) {
         let name = pool.class_name(catch_type)?;
-        let word = u32::from(OF_ARITHMETIC.contains(&name.as_str()));
+        let word = u32::from(OF_ARITHMETIC.contains(&name));
         let record = records::constant(catch_type, CLASS, &word.to_be_bytes());
         found.insert(catch_type, record);
     }

@@ -11,7 +11,7 @@ fn use_all(bytes: &[u8]) -> bool {
         let text = method.descriptor_text();
         let many = crate::descriptor::read(&text).map_or(0, |found| found.parameters.len());
         let _ = sheet(&class, method, &vec!["0".to_string(); many]);
-        let _ = choose(&class, &method.name);
+        let _ = choose(&class, &method.name_text());
         let _ = choose(&class, &method.signature());
     }
     let _ = choose(&class, "none");
@@ -55,7 +55,7 @@ fn a_pool_has_its_constants() {
     assert_eq!(pool.get(u16::MAX), None);
     assert_eq!(
         pool.class_name(10),
-        Ok("java/lang/ArithmeticException".to_string())
+        Ok(&b"java/lang/ArithmeticException"[..])
     );
 }
 

@@ -19,6 +19,20 @@ pub(super) fn decode(bytes: &[u8]) -> String {
     text.chars().map(shown).collect()
 }
 
+/// What a user writes, as a class file has it.
+pub(super) fn encode(text: &str) -> Vec<u8> {
+    let mut bytes = vec![];
+    for unit in text.encode_utf16() {
+        let low = |shift: u16| (unit >> shift & 0x3F) as u8 | 0x80;
+        match unit {
+            0x01..=0x7F => bytes.push(unit as u8),
+            0 | 0x80..=0x7FF => bytes.extend([(unit >> 6) as u8 | 0xC0, low(0)]),
+            _ => bytes.extend([(unit >> 12) as u8 | 0xE0, low(6), low(0)]),
+        }
+    }
+    bytes
+}
+
 /// The first UTF-16 unit, and the bytes after it.
 fn unit(bytes: &[u8]) -> Option<(u16, &[u8])> {
     let low = |byte: u8| u16::from(byte & 0x3F);
@@ -44,6 +58,10 @@ mod tests {
         assert_eq!(decode("größe€".as_bytes()), "größe€");
         // U+1F600 as its two surrogates, three bytes each.
         assert_eq!(decode(b"a\xED\xA0\xBD\xED\xB8\x80b"), "a\u{1F600}b");
+        for text in ["größe€", "a\u{1F600}b", "\u{7FF}\u{800}", ""] {
+            assert_eq!(decode(&encode(text)), text);
+        }
+        assert_eq!(encode("\0é€"), b"\xC0\x80\xC3\xA9\xE2\x82\xAC");
     }
 
     #[test]

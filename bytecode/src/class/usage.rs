@@ -72,7 +72,7 @@ fn length(code: &[u8], pc: usize, instruction: Instruction) -> Result<usize, Str
     };
     let table = usize::try_from(table).map_err(|_| {
         let name = instruction.name;
-        format!("the {name} at {pc} has a table of less than no entries")
+        format!("the {name} at {pc} has a table of a negative length")
     })?;
     Ok(at - pc + fields + table)
 }
@@ -177,11 +177,11 @@ mod tests {
             ),
             (
                 "AA000000 00000000 7FFFFFFF 80000000",
-                "the tableswitch at 0 has a table of less than no entries",
+                "the tableswitch at 0 has a table of a negative length",
             ),
             (
                 "AB000000 00000000 FFFFFFFF",
-                "the lookupswitch at 0 has a table of less than no entries",
+                "the lookupswitch at 0 has a table of a negative length",
             ),
             ("12FF", "ldc at 0 loads a constant that is not there"),
             ("1207", "ldc at 0 does not load an int or a float"),

@@ -42,6 +42,16 @@ public class Caught {
         }
     }
 
+    static int general(int a, int b) {
+        try {
+            return a % b;
+        } catch (Error e) {
+            return -2;
+        } catch (Exception e) {
+            return a;
+        }
+    }
+
     static int uncaught(int a, int b) {
         try {
             return a / b;

@@ -34,7 +34,7 @@ pub fn make_class(name: &str, class: &[u8], words: &[String]) -> Result<Vec<u8>,
 fn unnamed(class: &class::Class) -> String {
     match &class::static_methods(class)[..] {
         [] => "there is no static method with code".to_string(),
-        names => format!("say which method: {}", names.join(", ")),
+        names => format!("say which method: {}", class::listed(names)),
     }
 }
 
