@@ -43,12 +43,13 @@ pub fn choose<'a, 'b>(class: &'a Class<'b>, wanted: &str) -> Result<&'a Method<'
 /// The names of the static methods that have code, each once, in the order of the file.
 #[must_use]
 pub fn static_methods(class: &Class) -> Vec<String> {
-    let mut met = HashSet::new();
+    let (mut texts, mut met) = (HashSet::new(), HashSet::new());
     let mut names = vec![];
     for method in &class.methods {
         // A name with a < is none that a source can have: the initialization of the class.
         let named = method.is_static() && method.code.is_some() && !method.name.starts_with(b"<");
-        if named && met.insert(method.name) {
+        // Methods of one name mostly share its text in the pool, which may be long: it is read once.
+        if named && texts.insert(method.name.as_ptr()) && met.insert(method.name) {
             names.push(method.name_text());
         }
     }
