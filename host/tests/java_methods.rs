@@ -72,7 +72,7 @@ fn in_java(call: &Call) -> String {
 
 /// A program that makes the calls and prints a line for each.
 fn program(calls: &[Call]) -> String {
-    let mut text = include_str!("java/Calls.txt").to_string();
+    let mut text = include_str!("java/program.txt").to_string();
     for (number, call) in calls.iter().enumerate() {
         writeln!(text, "            case {number}: {}", in_java(call)).unwrap();
     }

@@ -152,6 +152,18 @@ fn what_is_no_class_file_is_said() {
     assert_eq!(refused(&[text(&cut), "a", "-o"]), usage);
 }
 
+#[test]
+fn a_sheet_that_cannot_be_written_is_said() {
+    let Some(folder) = COMPILED.as_ref() else {
+        return;
+    };
+    let class = folder.join("Unheld.class");
+    let output = folder.join("none").join("a.sheet");
+    let words = [text(&class), "small", "1", "-o", text(&output)];
+    let what = "this cannot be written: No such file or directory";
+    assert_eq!(refused(&words), format!("{}: {what}", text(&output)));
+}
+
 /// A class file whose method has an exception table that no compiler writes.
 #[test]
 fn a_sheet_that_the_load_refuses_is_said() {

@@ -64,7 +64,7 @@ pub fn command(words: &[String]) -> Result<(), Failure> {
     };
     let sheet = make_class(name, &class, words)?;
     if let Some(output) = output {
-        return fs::write(output, sheet).map_err(|error| Failure::of_file(output, error));
+        return fs::write(output, sheet).map_err(|error| unwritten(output, &error));
     }
     let mut output = io::stdout();
     if output.is_terminal() {
@@ -72,5 +72,12 @@ pub fn command(words: &[String]) -> Result<(), Failure> {
         return Err(Failure::Call(what.to_string()));
     }
     let written = output.write_all(&sheet).and_then(|()| output.flush());
-    written.map_err(|error| Failure::of_file("standard output", error))
+    written.map_err(|error| unwritten("standard output", &error))
+}
+
+/// What the system says, without its number.
+fn unwritten(name: &str, error: &io::Error) -> Failure {
+    let text = error.to_string();
+    let said = text.split(" (os error").next().unwrap_or("");
+    Failure::of_file(name, format!("this cannot be written: {said}"))
 }
