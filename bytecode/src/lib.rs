@@ -9,6 +9,9 @@
 //! - [`records`]: the records of a sheet.
 //! - [`sheet`]: what the records of a sheet say.
 //! - [`listing`]: a sheet as text, to read, and as a source.
+//! - [`class`]: a class file, and the sheet of a static method in it.
+//! - [`descriptor`]: a method descriptor as types.
+//! - [`literals`]: Java's literals as words.
 //! - [`source`]: the sheet of a method that is written as text.
 //! - [`error`]: what is wrong in a source or a listing, and in which line.
 //! - [`suggestion`]: names that are close to a wrong one.
@@ -17,10 +20,13 @@
 #![forbid(unsafe_code)]
 
 pub mod assembler;
+pub mod class;
 pub mod decoded;
+pub mod descriptor;
 pub mod error;
 pub mod instructions;
 pub mod listing;
+pub mod literals;
 pub mod mnemonics;
 mod reader;
 pub mod records;

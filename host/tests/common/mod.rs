@@ -4,6 +4,7 @@
 #![allow(dead_code)]
 
 pub mod folder;
+pub mod java;
 // The judge's fuzz program has these two too.
 pub mod memory;
 pub mod random;

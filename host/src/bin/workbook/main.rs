@@ -5,6 +5,7 @@
 mod failure;
 mod input;
 mod make;
+mod make_class;
 mod opcodes;
 mod output;
 mod show;
@@ -17,6 +18,8 @@ use workbook_host::suggestion::closest;
 const USAGE: &str = "usage: workbook COMMAND ...
 
     make FILE [-o SHEET]     the sheet of a source
+    make FILE METHOD[DESCRIPTOR] ARGUMENT ... [-o SHEET]
+                             the sheet of a static method in a class file
     show FILE [--source]     the listing of a source or a sheet, or its source
     opcodes                  the page of opcodes, with their names";
 

@@ -4,6 +4,7 @@ mod output;
 
 use crate::failure::Failure;
 use crate::input::{self, Input};
+use crate::make_class::make_class;
 use output::Output;
 use std::fs;
 use std::io::{self, IsTerminal};
@@ -26,7 +27,7 @@ pub fn make(words: &[String]) -> Result<(), Failure> {
             call.has_file_alone()?;
             of_source(call.file, &text)?
         }
-        Input::Class(bytes) => of_class(call.file, &bytes, &call.method)?,
+        Input::Class(bytes) => make_class(call.file, &bytes, &call.method)?,
         Input::Sheet(_) => return Err(Failure::of_file(call.file, "is a sheet already")),
     };
     if !call.refused {
@@ -46,12 +47,6 @@ pub fn of_source(name: &str, text: &str) -> Result<Vec<u8>, Failure> {
         Some(line) => Failure::of_file(&format!("{name}:{line}"), error.what()),
         None => Failure::of_file(name, error.what()),
     })
-}
-
-/// The sheet of a method of a class file, from the words of the call behind its name.
-fn of_class(name: &str, _bytes: &[u8], _method: &[&str]) -> Result<Vec<u8>, Failure> {
-    let what = "is a class file, of which this program makes no sheet yet";
-    Err(Failure::of_file(name, what))
 }
 
 /// Asks the library whether it takes a sheet.
