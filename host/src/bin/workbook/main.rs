@@ -4,6 +4,7 @@
 
 mod failure;
 mod input;
+mod key;
 
 use failure::Failure;
 use std::process::ExitCode;
@@ -33,6 +34,7 @@ fn main() -> ExitCode {
 /// Does what the words of a call say.
 fn command(words: &[String]) -> Result<(), Failure> {
     match words.first().map(String::as_str) {
+        Some("key") => key::run(&words[1..]),
         _ => Err(Failure::Call(USAGE.to_string())),
     }
 }
