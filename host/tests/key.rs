@@ -70,6 +70,23 @@ fn a_source_has_the_key_of_its_sheet() {
     assert_eq!(String::from_utf8(output.stdout).unwrap(), text);
 }
 
+#[test]
+fn many_locals_take_many_lines() {
+    let text = printed(&["wide.sheet", "--steps", "0"]);
+    let lines: Vec<&str> = text.lines().skip(5).collect();
+    let first = "  locals  0: 00000018  1: 00000000  2: 00000000  3: 00000000  4: 00000000  \
+                 5: 00000000  6: 00000000";
+    assert_eq!(lines[0], first);
+    let second = "          7: 00000000  8: 00000000  9: 00000000  10: 00000000  11: 00000000  \
+                  12: 00000000";
+    assert_eq!(lines[1], second);
+    assert!(lines[..lines.len() - 1]
+        .iter()
+        .all(|line| line.len() <= 100));
+    let locals = text.matches(": 000000").count();
+    assert_eq!(locals, 257);
+}
+
 /// The last line of a printed walk, from the last line of a key.
 fn last_line(answer: &str) -> String {
     if answer.starts_with("no answer yet: ") {

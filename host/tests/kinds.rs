@@ -267,13 +267,14 @@ fn a_caught_exception_is_a_reference() {
         ("iconst_1; iconst_1; idiv; at: nop", "I"),
         ("iconst_1; iconst_1; irem; at: nop", "I"),
         ("iconst_1; lconst_1; lconst_0; ldiv; at: nop", "A"),
+        ("lconst_1; lconst_1; ldiv; at: nop", "Jj"),
         ("lconst_1; ldc2_w 3; ldiv; at: nop", "Jj"),
         ("lconst_1; lconst_0; lrem; at: nop", "A"),
     ] {
         let listing = format!("{listing}; return");
         let (code, labels) = assembler::assemble_with_labels(&listing).unwrap();
         let at = labels["at"] as u16;
-        // A long whose low word is 0 is not 0.
+        // A long whose low word is 0 is not 0, nor one whose high word is.
         let long = constant(3, 5, &[0, 0, 0, 1, 0, 0, 0, 0]);
         let sheet = sheet_with(9, 0, &code, &[long, handler([0, at, at, 0])]);
         assert_eq!(walked(sheet).1, stack, "{listing}");
