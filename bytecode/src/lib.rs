@@ -9,6 +9,7 @@
 //! - [`records`]: the records of a sheet.
 //! - [`sheet`]: what the records of a sheet say.
 //! - [`listing`]: a sheet as text, to read, and as a source.
+//! - [`decimals`]: floats and doubles as Java writes them.
 //! - [`class`]: a class file, and the sheet of a static method in it.
 //! - [`descriptor`]: a method descriptor as types.
 //! - [`literals`]: Java's literals as words.
@@ -21,6 +22,7 @@
 
 pub mod assembler;
 pub mod class;
+pub mod decimals;
 pub mod decoded;
 pub mod descriptor;
 pub mod error;

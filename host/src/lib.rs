@@ -4,6 +4,8 @@
 //! - [`load`], [`step`], [`forward`], [`back`], [`run`] and [`presses`] are the library's functions
 //!   on lent slices.
 //! - [`Walk`] owns the memory that they need.
+//! - [`kinds`] tells what the words of a frame are by the instructions executed, and [`shown`] gives
+//!   the values; both are for showing only.
 //! - [`mnemonics`] shows instructions by name, [`assembler`] and [`source`] make code and sheets of
 //!   them.
 //!
@@ -36,9 +38,11 @@
 
 mod answers;
 mod calls;
+pub mod kinds;
 mod refusal;
 mod return_type;
 mod room;
+pub mod shown;
 mod version;
 mod walk;
 
@@ -48,7 +52,7 @@ mod walk;
 #[allow(unsafe_code)]
 pub mod ffi;
 
-pub use bytecode::{assembler, decoded, error, instructions, listing, mnemonics};
+pub use bytecode::{assembler, decimals, decoded, error, instructions, listing, mnemonics};
 pub use bytecode::{records, sheet, source, suggestion, values};
 
 pub use answers::{Answer, End, Ran, Value};

@@ -42,7 +42,7 @@ fn a_file_that_is_no_source() {
         ("a.sheet", "is a sheet already"),
         (
             "A.class",
-            "is a class file, of which this program makes no sheet yet",
+            "the class file is damaged: it ends at byte 8, inside of a part",
         ),
     ] {
         wrong(&folder, &["make", file], &format!("{file}: {what}"));

@@ -105,7 +105,7 @@ fn a_refused_sheet_is_listed_and_then_refused() {
 max_stack 2, max_locals 0
 no record from byte 17 on: 52 00 00
 ";
-    let error = "-: refused with 21: The file ends in the middle of a record.\n";
+    let error = "-: the sheet is refused: 21: The file ends in the middle of a record.\n";
     let given = workbook(&["show", "-"], sheet);
     assert_eq!(given, (1, text.to_string(), error.to_string()));
     let text = "# Bytes, as no other lines give them.

@@ -1,5 +1,6 @@
 //! Values as a listing and a source have them.
 
+use crate::decimals;
 use crate::values::Kind;
 
 /// A value as Java's own text for it: `7`, `0.1f`, `3000000000L`, `0.25d`, `NaN`, `-Infinity`. A NaN
@@ -9,34 +10,22 @@ pub fn shown(kind: Kind, bits: u64) -> String {
     match kind {
         Kind::Int => (bits as i32).to_string(),
         Kind::Long => format!("{}L", bits as i64),
-        Kind::Float => {
-            let float = f32::from_bits(bits as u32);
-            let is_nan_of_java = bits as u32 == 0x7FC0_0000;
-            number(
-                float.into(),
-                is_nan_of_java,
-                format!("{float:?}f"),
-                kind,
-                bits,
-            )
-        }
-        Kind::Double => {
-            let double = f64::from_bits(bits);
-            let is_nan_of_java = bits == 0x7FF8_0000_0000_0000;
-            number(double, is_nan_of_java, format!("{double:?}d"), kind, bits)
-        }
+        Kind::Float => lettered(decimals::float(bits as u32), 'f', kind, bits, 0x7FC0_0000),
+        Kind::Double => lettered(
+            decimals::double(bits),
+            'd',
+            kind,
+            bits,
+            0x7FF8_0000_0000_0000,
+        ),
     }
 }
 
-fn number(number: f64, is_nan_of_java: bool, finite: String, kind: Kind, bits: u64) -> String {
-    if number.is_finite() {
-        return finite;
-    }
-    match (number.is_nan(), is_nan_of_java) {
-        (true, true) => "NaN".to_string(),
-        (true, false) => format!("NaN ({})", digits(kind, bits)),
-        (false, _) if number < 0.0 => "-Infinity".to_string(),
-        (false, _) => "Infinity".to_string(),
+fn lettered(text: String, letter: char, kind: Kind, bits: u64, nan_of_java: u64) -> String {
+    match text.as_str() {
+        "NaN" if bits != nan_of_java => format!("NaN ({})", digits(kind, bits)),
+        "NaN" | "Infinity" | "-Infinity" => text,
+        _ => format!("{text}{letter}"),
     }
 }
 
@@ -70,8 +59,8 @@ mod tests {
             (Kind::Int, 0xFFFF_FFFF, "-1", "-1"),
             (Kind::Float, 0x3DCC_CCCD, "0.1f", "0.1"),
             (Kind::Float, 0x8000_0000, "-0.0f", "-0.0"),
-            (Kind::Float, 0x3727_C5AC, "1e-5f", "1e-5"),
-            (Kind::Float, 0x0000_0001, "1e-45f", "1e-45"),
+            (Kind::Float, 0x3727_C5AC, "1.0E-5f", "1e-5"),
+            (Kind::Float, 0x0000_0001, "1.4E-45f", "1e-45"),
             (Kind::Float, 0x7FC0_0000, "NaN", "h7FC00000"),
             (Kind::Float, 0xFFC0_0001, "NaN (hFFC00001)", "hFFC00001"),
             (Kind::Float, 0x7F80_0000, "Infinity", "h7F800000"),

@@ -2,6 +2,7 @@
 
 use std::process::ExitCode;
 use std::{fmt, io};
+use workbook_host::Refusal;
 
 /// What stops a command. It is told as one sentence on standard error.
 #[derive(Debug, PartialEq, Eq)]
@@ -16,6 +17,11 @@ impl Failure {
     /// A failure of a file, which its name begins.
     pub fn of_file(name: &str, what: impl fmt::Display) -> Failure {
         Failure::Call(format!("{name}: {what}"))
+    }
+
+    /// A sheet that the library refuses, of a file.
+    pub fn of_sheet(name: &str, refusal: &Refusal) -> Failure {
+        Failure::Wrong(format!("{name}: the sheet is refused: {refusal}"))
     }
 
     /// The exit status: 2 for a wrong call or file, 1 for a refused sheet or a wrong answer.

@@ -4,6 +4,7 @@
 
 mod failure;
 mod input;
+mod key;
 mod make;
 mod make_class;
 mod opcodes;
@@ -21,9 +22,11 @@ const USAGE: &str = "usage: workbook COMMAND ...
     make FILE METHOD[DESCRIPTOR] ARGUMENT ... [-o SHEET]
                              the sheet of a static method in a class file
     show FILE [--source]     the listing of a source or a sheet, or its source
+    key FILE [--steps N] [--format text|markdown|json|html]
+                             the answer key of a source or a sheet: every step, and the answer
     opcodes                  the page of opcodes, with their names";
 
-const COMMANDS: [&str; 3] = ["make", "opcodes", "show"];
+const COMMANDS: [&str; 4] = ["key", "make", "opcodes", "show"];
 
 fn main() -> ExitCode {
     let words: Result<Vec<String>, OsString> =
@@ -47,6 +50,7 @@ fn main() -> ExitCode {
 /// Does what the words of a call say.
 fn command(words: &[String]) -> Result<(), Failure> {
     match words.first().map(String::as_str) {
+        Some("key") => key::run(&words[1..]),
         Some("make") => make::make(&words[1..]),
         Some("opcodes") => opcodes::opcodes(&words[1..]),
         Some("show") => show::show(&words[1..]),

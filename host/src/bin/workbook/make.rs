@@ -53,9 +53,7 @@ pub fn of_source(name: &str, text: &str) -> Result<Vec<u8>, Failure> {
 fn accepted(name: &str, sheet: &[u8]) -> Result<(), Failure> {
     match Walk::open(sheet.to_vec()) {
         Ok(_) => Ok(()),
-        Err(refusal) => Err(Failure::Wrong(format!(
-            "{name}: the sheet is refused: {refusal}"
-        ))),
+        Err(refusal) => Err(Failure::of_sheet(name, &refusal)),
     }
 }
 

@@ -26,7 +26,7 @@ pub fn show(words: &[String]) -> Result<(), Failure> {
     })?;
     match Walk::open(bytes) {
         Ok(_) => Ok(()),
-        Err(refusal) => Err(Failure::Wrong(format!("{name}: refused with {refusal}"))),
+        Err(refusal) => Err(Failure::of_sheet(name, &refusal)),
     }
 }
 
