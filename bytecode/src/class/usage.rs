@@ -2,7 +2,9 @@
 
 use super::others;
 use super::pool::{Constant, Pool};
-use crate::instructions::{of_opcode, switch_operands, widened, Instruction, Operands};
+use crate::decoded::{pieces, Fields};
+use crate::instructions::{of_opcode, Instruction};
+use crate::mnemonics;
 use std::collections::BTreeSet;
 
 const LDC: u8 = 18;
@@ -16,83 +18,44 @@ const WIDE: u8 = 196;
 ///
 /// A sentence about the first instruction that a sheet cannot hold, with its offset.
 pub(super) fn constants(code: &[u8], pool: &Pool) -> Result<BTreeSet<u16>, String> {
-    let (mut indices, mut pc) = (BTreeSet::new(), 0);
-    while let Some(&opcode) = code.get(pc) {
-        let instruction = of_opcode(opcode).ok_or_else(|| outside(opcode, pc))?;
-        let length = length(code, pc, instruction)?;
-        let bytes = code.get(pc..pc + length);
-        let bytes = bytes.ok_or_else(|| cut_off(instruction, pc))?;
-        if let Some(index) = loaded(bytes) {
-            held(instruction, pc, pool.get(index))?;
-            indices.insert(index);
+    let mut indices = BTreeSet::new();
+    for piece in pieces(code) {
+        let decoded = piece.instruction.ok_or_else(|| unheld(code, piece.at))?;
+        if let (LDC | LDC_W | LDC2_W, Fields::Numbers(numbers)) =
+            (decoded.entry.opcode, decoded.fields)
+        {
+            for index in numbers
+                .into_iter()
+                .filter_map(|index| index.try_into().ok())
+            {
+                held(decoded.entry, piece.at, pool.get(index))?;
+                indices.insert(index);
+            }
         }
-        pc += length;
     }
     Ok(indices)
 }
 
-fn outside(opcode: u8, pc: usize) -> String {
-    match others::name(opcode) {
-        Some(name) => {
-            format!("this method uses {name} at {pc}, which is outside the 164 instructions")
-        }
-        None => format!("this method has byte {opcode} at {pc}, which is no instruction"),
-    }
-}
-
-fn cut_off(instruction: Instruction, pc: usize) -> String {
-    let name = instruction.name;
-    format!("this method ends inside of the {name} at {pc}")
-}
-
-/// How many bytes an instruction has. They need not all be there.
-fn length(code: &[u8], pc: usize, instruction: Instruction) -> Result<usize, String> {
-    if let Some(operands) = instruction.operands.length() {
-        return Ok(1 + operands);
-    }
-    let cut_off = || cut_off(instruction, pc);
-    if instruction.opcode == WIDE {
-        let &opcode = code.get(pc + 1).ok_or_else(cut_off)?;
-        let operands = widened(opcode).and_then(Operands::length);
-        let operands = operands.ok_or_else(|| not_widened(opcode, pc))?;
-        return Ok(2 + operands);
-    }
-    let at = switch_operands(pc);
-    // After the default: the lowest and the highest index, or the number of pairs.
-    let field = |at: usize| {
-        let field = code.get(at..).and_then(<[u8]>::first_chunk);
-        field
-            .map(|bytes| i64::from(i32::from_be_bytes(*bytes)))
-            .ok_or_else(cut_off)
+/// What to say of bytes that are no whole instruction of the core.
+fn unheld(code: &[u8], at: usize) -> String {
+    let outside = |what: &str, opcode: u8| {
+        let name = others::name(opcode)?;
+        let end = "which is outside the 164 instructions";
+        Some(format!("this method uses {what}{name} at {at}, {end}"))
     };
-    let (fields, table) = if instruction.operands == Operands::TableSwitch {
-        (12, 4 * (field(at + 8)? - field(at + 4)? + 1))
-    } else {
-        (8, 8 * field(at + 4)?)
-    };
-    let table = usize::try_from(table).map_err(|_| {
-        let name = instruction.name;
-        format!("the {name} at {pc} has a table of a negative length")
-    })?;
-    Ok(at - pc + fields + table)
-}
-
-fn not_widened(opcode: u8, pc: usize) -> String {
-    match others::name(opcode) {
-        Some(name) => {
-            format!("this method uses wide {name} at {pc}, which is outside the 164 instructions")
-        }
-        None => format!("this method has wide at {pc} before byte {opcode}, which it cannot widen"),
-    }
-}
-
-/// The index of the constant that a whole instruction loads.
-fn loaded(bytes: &[u8]) -> Option<u16> {
-    match *bytes {
-        [LDC, index] => Some(index.into()),
-        [LDC_W | LDC2_W, high, low] => Some(u16::from_be_bytes([high, low])),
+    let said = match code[at..] {
+        [opcode, ..] if of_opcode(opcode).is_none() => outside("", opcode).or_else(|| {
+            Some(format!(
+                "this method has byte {opcode} at {at}, which is no instruction"
+            ))
+        }),
+        [WIDE, opcode, ..] => outside("wide ", opcode),
         _ => None,
-    }
+    };
+    said.unwrap_or_else(|| {
+        let text = mnemonics::instruction(code, at as u32);
+        format!("this method has no whole instruction at {at}: {text}")
+    })
 }
 
 /// Whether an instruction takes a constant, and a sheet holds it.
@@ -158,30 +121,27 @@ mod tests {
             ),
             (
                 "C400",
-                "this method has wide at 0 before byte 0, which it cannot widen",
+                "this method has no whole instruction at 0: wide (cannot widen byte 0)",
             ),
             (
                 "00CA",
                 "this method has byte 202 at 1, which is no instruction",
             ),
-            ("0010", "this method ends inside of the bipush at 1"),
-            ("C4", "this method ends inside of the wide at 0"),
-            ("C41500", "this method ends inside of the wide at 0"),
             (
-                "AA000000 00",
-                "this method ends inside of the tableswitch at 0",
+                "0010",
+                "this method has no whole instruction at 1: bipush (cut off by the end of the code)",
             ),
             (
-                "AA000000 00000000 80000000 7FFFFFFF",
-                "this method ends inside of the tableswitch at 0",
+                "C4",
+                "this method has no whole instruction at 0: wide (cut off by the end of the code)",
             ),
             (
                 "AA000000 00000000 7FFFFFFF 80000000",
-                "the tableswitch at 0 has a table of a negative length",
+                "this method has no whole instruction at 0: tableswitch (lowest index 2147483647 is above highest index -2147483648)",
             ),
             (
                 "AB000000 00000000 FFFFFFFF",
-                "the lookupswitch at 0 has a table of a negative length",
+                "this method has no whole instruction at 0: lookupswitch (number of pairs -1 is negative)",
             ),
             ("12FF", "ldc at 0 loads a constant that is not there"),
             ("1207", "ldc at 0 does not load an int or a float"),
