@@ -154,6 +154,25 @@ fn field_type(text: &str) -> Option<(Type, &str)> {
     Some((found, rest))
 }
 
+/// The letters of the types of a descriptor's parameters, `L` for an array too, of its bytes as a sheet
+/// has them. What a load asks besides of a descriptor is not asked here.
+#[must_use]
+pub fn letters(descriptor: &[u8]) -> Option<Vec<u8>> {
+    let (mut letters, mut rest) = (vec![], descriptor.strip_prefix(b"(")?);
+    while !rest.starts_with(b")") {
+        let dimensions = rest.iter().take_while(|letter| **letter == b'[').count();
+        rest = &rest[dimensions..];
+        let (letter, after) = rest.split_first()?;
+        rest = match letter {
+            b'L' => &after[after.iter().position(|letter| *letter == b';')? + 1..],
+            b'B' | b'C' | b'D' | b'F' | b'I' | b'J' | b'S' | b'Z' => after,
+            _ => return None,
+        };
+        letters.push(if dimensions > 0 { b'L' } else { *letter });
+    }
+    Some(letters)
+}
+
 #[cfg(test)]
 mod tests {
     use super::*;

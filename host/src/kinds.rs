@@ -4,6 +4,7 @@
 mod effects;
 
 use crate::{Parts, State};
+use bytecode::descriptor::letters;
 use effects::{effect, short, throws, Effect, Value};
 use effects::{DOUBLE, FLOAT, INT, LONG, NONE, REFERENCE};
 
@@ -175,26 +176,15 @@ pub fn descriptor(sheet: &[u8]) -> Option<&[u8]> {
     body.get(..short(sheet, 10))
 }
 
-/// The kinds of a descriptor's parameters, as far as it is one.
+/// The kinds of a descriptor's parameters.
 fn parameters(descriptor: &[u8]) -> Vec<Kind> {
-    let mut kinds = vec![];
-    let mut rest = descriptor.iter().skip(1);
-    while let Some(&letter) = rest.next() {
-        let mut last = letter;
-        while last == b'[' {
-            last = rest.next().copied().unwrap_or(b')');
-        }
-        if last == b'L' {
-            let _class = rest.find(|character| **character == b';');
-        }
-        kinds.extend(match letter {
-            b')' => break,
-            b'J' => LONG,
-            b'D' => DOUBLE,
-            b'F' => FLOAT,
-            b'L' | b'[' => REFERENCE,
-            _ => INT,
-        });
-    }
-    kinds
+    let letters = letters(descriptor).unwrap_or_default();
+    let kinds = letters.into_iter().flat_map(|letter| match letter {
+        b'J' => LONG,
+        b'D' => DOUBLE,
+        b'F' => FLOAT,
+        b'L' => REFERENCE,
+        _ => INT,
+    });
+    kinds.copied().collect()
 }

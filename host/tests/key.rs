@@ -149,7 +149,11 @@ fn every_sample_has_the_steps_and_the_answer_of_its_printed_walk() {
         match sample.printed.strip_prefix("sheet ") {
             Some(number) => {
                 let refusal = Refusal::new(number.trim().parse().unwrap()).unwrap();
-                refused(&[&name], 1, &format!("{name}: the sheet is refused: {refusal}"));
+                refused(
+                    &[&name],
+                    1,
+                    &format!("{name}: the sheet is refused: {refusal}"),
+                );
             }
             None => compare(&sample, &name),
         }

@@ -1,6 +1,7 @@
 //! The arguments of a sheet: by its descriptor's parameters, or else by the loads of its code.
 
 use super::{loads, value};
+use crate::descriptor::letters;
 use crate::sheet::Sheet;
 use crate::values::Kind;
 
@@ -74,7 +75,7 @@ pub(super) fn said(sheet: &Sheet) -> Vec<String> {
 /// The arguments, where the descriptor has parameters that take as many words.
 fn by_descriptor(sheet: &Sheet) -> Option<Vec<Argument>> {
     let (mut arguments, mut words) = (vec![], &sheet.arguments[..]);
-    for letter in parameters(sheet.descriptor.as_deref()?)? {
+    for letter in letters(sheet.descriptor.as_deref()?)? {
         let local = sheet.arguments.len() - words.len();
         let (value, rest) = words.split_at_checked(kind_of(letter).size())?;
         let high = value.get(1).copied().unwrap_or(0);
@@ -108,24 +109,6 @@ fn by_loads(sheet: &Sheet) -> Vec<Argument> {
         local += kind_of(letter).size();
     }
     arguments
-}
-
-/// The letters of the parameters' types, `L` for an array too. What a load asks besides of a
-/// descriptor is not asked here.
-fn parameters(descriptor: &[u8]) -> Option<Vec<u8>> {
-    let (mut letters, mut rest) = (vec![], descriptor.strip_prefix(b"(")?);
-    while !rest.starts_with(b")") {
-        let dimensions = rest.iter().take_while(|letter| **letter == b'[').count();
-        rest = &rest[dimensions..];
-        let (letter, after) = rest.split_first()?;
-        rest = match letter {
-            b'L' => &after[after.iter().position(|letter| *letter == b';')? + 1..],
-            b'B' | b'C' | b'D' | b'F' | b'I' | b'J' | b'S' | b'Z' => after,
-            _ => return None,
-        };
-        letters.push(if dimensions > 0 { b'L' } else { *letter });
-    }
-    Some(letters)
 }
 
 /// The kind of a value of a type.
