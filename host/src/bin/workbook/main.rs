@@ -10,6 +10,7 @@ mod make_class;
 mod opcodes;
 mod output;
 mod show;
+mod walk;
 
 use failure::Failure;
 use std::process::ExitCode;
@@ -24,9 +25,10 @@ const USAGE: &str = "usage: workbook COMMAND ...
     show FILE [--source]     the listing of a source or a sheet, or its source
     key FILE [--steps N] [--format text|markdown|json|html]
                              the answer key of a source or a sheet: every step, and the answer
-    opcodes                  the page of opcodes, with their names";
+    opcodes                  the page of opcodes, with their names
+    walk FILE                goes through a source or a sheet, forward and back, by keys";
 
-const COMMANDS: [&str; 4] = ["key", "make", "opcodes", "show"];
+const COMMANDS: [&str; 5] = ["key", "make", "opcodes", "show", "walk"];
 
 fn main() -> ExitCode {
     let words: Result<Vec<String>, OsString> =
@@ -54,6 +56,7 @@ fn command(words: &[String]) -> Result<(), Failure> {
         Some("make") => make::make(&words[1..]),
         Some("opcodes") => opcodes::opcodes(&words[1..]),
         Some("show") => show::show(&words[1..]),
+        Some("walk") => walk::run(&words[1..]),
         Some(word) => Err(Failure::Call(match closest(word, COMMANDS) {
             Some(name) => format!("there is no command {word}; did you mean {name}?"),
             None => format!("there is no command {word}; {USAGE}"),

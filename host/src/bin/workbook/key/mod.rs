@@ -1,7 +1,7 @@
 //! `key`: the answer key of a method, step by step.
 
 mod call;
-mod format;
+pub mod format;
 mod html;
 mod json;
 mod markdown;
@@ -42,7 +42,11 @@ pub fn run(words: &[String]) -> Result<(), Failure> {
 }
 
 /// The sheet of a file.
-fn sheet(file: &str) -> Result<Vec<u8>, Failure> {
+///
+/// # Errors
+///
+/// Where the file cannot be read, is a class file, or is a source that is wrong.
+pub fn sheet(file: &str) -> Result<Vec<u8>, Failure> {
     match input::read(file)? {
         Input::Sheet(bytes) => Ok(bytes),
         Input::Source(text) => of_source(file, &text),
