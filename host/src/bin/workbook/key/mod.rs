@@ -6,7 +6,7 @@ mod html;
 mod json;
 mod markdown;
 mod progress;
-mod steps;
+pub mod steps;
 mod text;
 
 use crate::failure::{said, Failure};
@@ -42,7 +42,11 @@ pub fn run(words: &[String]) -> Result<(), Failure> {
 }
 
 /// The sheet of a file.
-fn sheet(file: &str) -> Result<Vec<u8>, Failure> {
+///
+/// # Errors
+///
+/// Where the file cannot be read, or has neither a sheet nor a source.
+pub fn sheet(file: &str) -> Result<Vec<u8>, Failure> {
     match input::read(file)? {
         Input::Sheet(bytes) => Ok(bytes),
         Input::Source(text) => of_source(file, &text),
