@@ -5,6 +5,8 @@
 
 pub mod folder;
 pub mod java;
+pub mod known;
+pub mod marks;
 // The judge's fuzz program has these two too.
 pub mod memory;
 pub mod random;

@@ -7,6 +7,7 @@ mod input;
 mod key;
 mod make;
 mod make_class;
+mod mark;
 mod opcodes;
 mod output;
 mod show;
@@ -25,10 +26,11 @@ const USAGE: &str = "usage: workbook COMMAND ...
     show FILE [--source]     the listing of a source or a sheet, or its source
     key FILE [--steps N] [--format text|markdown|json|html]
                              the answer key of a source or a sheet: every step, and the answer
+    mark FILE ANSWERS        whether a learner's answers are right, or the first wrong place
     opcodes                  the page of opcodes, with their names
     walk FILE                goes through a source or a sheet, forward and back, by keys";
 
-const COMMANDS: [&str; 5] = ["key", "make", "opcodes", "show", "walk"];
+const COMMANDS: [&str; 6] = ["key", "make", "mark", "opcodes", "show", "walk"];
 
 fn main() -> ExitCode {
     let words: Result<Vec<String>, OsString> =
@@ -54,6 +56,7 @@ fn command(words: &[String]) -> Result<(), Failure> {
     match words.first().map(String::as_str) {
         Some("key") => key::run(&words[1..]),
         Some("make") => make::make(&words[1..]),
+        Some("mark") => mark::run(&words[1..]),
         Some("opcodes") => opcodes::opcodes(&words[1..]),
         Some("show") => show::show(&words[1..]),
         Some("walk") => walk::run(&words[1..]),

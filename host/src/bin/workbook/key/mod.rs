@@ -6,7 +6,7 @@ mod html;
 mod json;
 mod markdown;
 mod progress;
-mod steps;
+pub mod steps;
 mod text;
 
 use crate::failure::{said, Failure};
