@@ -1,18 +1,13 @@
 //! Static methods that javac compiles become sheets, and their answers are those of Java.
 //!
-//! java/calls.txt has the calls. A call goes two ways: as words to `workbook`, which makes a sheet
-//! that the library runs; and as text into a Java program, so that javac reads its literals.
+//! java/calls.txt has the calls. A call goes two ways: as words to `workbook make`, of whose sheet
+//! `workbook key` gives the answer; and as text into a Java program, so that javac reads its literals.
 #![forbid(unsafe_code)]
 
 mod common;
 
-use common::java::{self, workbook};
+use common::java::{self, command, workbook};
 use std::fmt::Write;
-use std::fs;
-use workbook_host::{End, Value, Walk};
-
-/// More than any of the calls takes.
-const BUDGET: u64 = 1_000_000;
 
 /// A call of java/calls.txt.
 struct Call {
@@ -79,18 +74,24 @@ fn program(calls: &[Call]) -> String {
     text + "            default: throw new AssertionError(number);\n        }\n    }\n}\n"
 }
 
-/// The answer of a sheet, as the program prints one.
-fn answer(sheet: Vec<u8>) -> String {
-    match Walk::open(sheet).unwrap().run(BUDGET).ran.end {
-        End::Return(Value::Int(int)) => format!("int {int:08X}"),
-        End::Return(Value::Float(bits)) => format!("float {bits:08X}"),
-        End::Return(Value::Reference(word)) => format!("reference {word:08X}"),
-        End::Return(Value::Long(long)) => format!("long {long:016X}"),
-        End::Return(Value::Double(bits)) => format!("double {bits:016X}"),
-        End::Return(Value::Void) => "void".to_string(),
-        End::Throw => "throw".to_string(),
-        other => format!("{other:?}"),
+/// The answer in the last line of a sheet's key, as the Java program prints one.
+fn answer(sheet: &str) -> String {
+    let key = command(&["key", sheet]);
+    let said = String::from_utf8_lossy(&key.stderr);
+    assert!(key.status.success() && said.is_empty(), "{said}");
+    let key = String::from_utf8(key.stdout).unwrap();
+    let last = key.lines().next_back().unwrap().to_string();
+    if last.ends_with(" throws an ArithmeticException that nothing catches") {
+        return "throw".to_string();
     }
+    let (_, returned) = last.split_once(" returns ").unwrap();
+    if returned == "nothing" {
+        return "void".to_string();
+    }
+    // The kind, the value, and its digits in brackets.
+    let (kind, value) = returned.split_once(' ').unwrap();
+    let (_, digits) = value.split_once('(').unwrap();
+    format!("{kind} {}", digits.trim_end_matches(')'))
 }
 
 #[test]
@@ -115,6 +116,7 @@ fn sheets_answer_as_java_does() {
             made.status.success() && said.is_empty(),
             "{words:?}: {said}"
         );
-        assert_eq!(answer(fs::read(&sheet).unwrap()), expected, "{words:?}");
+        let sheet = sheet.to_str().unwrap();
+        assert_eq!(answer(sheet), expected, "{words:?}");
     }
 }

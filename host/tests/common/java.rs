@@ -4,10 +4,15 @@ use std::fs;
 use std::path::{Path, PathBuf};
 use std::process::{Command, Output};
 
+/// The program `workbook`, with its words.
+pub fn command(words: &[&str]) -> Output {
+    let mut command = Command::new(env!("CARGO_BIN_EXE_workbook"));
+    command.args(words).output().unwrap()
+}
+
 /// The command that makes a sheet of a method, with its words.
 pub fn workbook(words: &[&str]) -> Output {
-    let mut command = Command::new(env!("CARGO_BIN_EXE_workbook"));
-    command.arg("make").args(words).output().unwrap()
+    command(&[&["make"], words].concat())
 }
 
 /// The folder with the classes of java/ and of further sources, each a name and its text. Nothing,
