@@ -24,6 +24,8 @@ long_sum.sheet | start; local 2 = 1L | start: local 2 is 1 (00000001), not 1L
 loop.sheet | answer return 9 | the answer is return 10, not return 9
 loop.sheet | answer return 9f | the answer is return 10, not return 9f
 loop.sheet | answer return 0x9 | the answer is return 10 (0000000A), not return 0x9
+loop.sheet | answer return 00000012 | the answer is return 10 (0000000A), not return 00000012
+loop.sheet | answer return 012f | the answer is return 10, not return 012f
 loop.sheet | answer void | the answer is return 10, not void
 loop.sheet | answer throw | the answer is return 10, not throw
 division_by_zero.sheet | answer return 0 | the answer is throw, not return 0

@@ -68,9 +68,7 @@ pub fn value(value: Option<Value>, words: &[u32], given: &Given) -> String {
         (None, [word]) => (*word as i32).to_string(),
         (None, _) => String::new(),
     };
-    let bits = given.is_hexadecimal() || value.is_none() || text == "NaN" || text == "reference";
-    // A text that is right with other bits, as 0.0 beside -0.0 is not, would be no help.
-    if bits || text == given.text() {
+    if given.is_hexadecimal() || value.is_none() || text == "NaN" || text == "reference" {
         let words: Vec<String> = words.iter().map(|word| format!("{word:08X}")).collect();
         format!("{text} ({})", words.join(" "))
     } else {
