@@ -179,7 +179,8 @@ fn steps_end_a_key_only_where_more_would_follow() {
 
 #[test]
 fn wrong_calls_and_files_are_a_sentence() {
-    let usage = "usage: workbook key FILE [--steps N] [--format text|markdown|json|html]";
+    let usage = "usage: workbook key FILE [METHOD[DESCRIPTOR] ARGUMENT ...] [--steps N] \
+                 [--format text|markdown|json|html]";
     refused(&[], 2, usage);
     refused(
         &["loop.sheet", "--pages"],
@@ -196,7 +197,7 @@ fn wrong_calls_and_files_are_a_sentence() {
     let class = env::temp_dir().join(format!("workbook-key-{}.class", process::id()));
     fs::write(&class, [0xCA, 0xFE, 0xBA, 0xBE, 0, 0]).unwrap();
     let name = class.to_str().unwrap();
-    let what = "is a class file; make a sheet of one of its methods first, with workbook make";
+    let what = "the class file is damaged: it ends at byte 6, inside of a part";
     refused(&[name], 2, &format!("{name}: {what}"));
     fs::remove_file(&class).unwrap();
 }

@@ -3,9 +3,10 @@
 
 mod common;
 
-use common::java::{compiled, workbook};
+use common::java::{command, compiled, workbook};
 use std::fs;
 use std::path::{Path, PathBuf};
+use std::process::Output;
 use std::sync::LazyLock;
 
 /// The folder with the classes of java/, where there is a javac.
@@ -173,4 +174,40 @@ fn a_sheet_that_the_load_refuses_is_said() {
     let said = String::from_utf8(done.stderr).unwrap();
     let start = format!("{}: the sheet is refused: 33: ", text(&class));
     assert!(said.starts_with(&start), "{said}");
+}
+
+/// The other commands take the same words behind a class file, and do with them what they do with the
+/// sheet.
+#[test]
+fn a_method_needs_no_sheet() {
+    let Some(folder) = COMPILED.as_ref() else {
+        return;
+    };
+    let class = folder.join("Unheld.class");
+    let sheet = folder.join("shown.sheet");
+    let method = ["add(JJ)J", "3000000000", "-1"];
+    let made = [&[text(&class)], &method[..], &["-o", text(&sheet)]].concat();
+    assert!(workbook(&made).status.success());
+    let answers = file("answers.txt", b"answer return 2999999999");
+    let answers = text(&answers);
+    for (name, last) in [
+        ("show", &["--source"][..]),
+        ("key", &["--format", "json", "--steps", "3"]),
+        ("walk", &[]),
+        ("mark", &[answers]),
+    ] {
+        let of_class = command(&[&[name, text(&class)], &method[..], last].concat());
+        let of_sheet = command(&[&[name, text(&sheet)], last].concat());
+        let printed = |output: &Output| {
+            let text = String::from_utf8(output.stdout.clone()).unwrap();
+            text.replace("Unheld.class", "shown.sheet")
+        };
+        assert!(of_class.status.success() && of_class.stderr.is_empty());
+        assert_eq!(printed(&of_class), printed(&of_sheet), "{name}");
+        // A sheet has one method, and nothing to give it.
+        let words = [&[name, text(&sheet)], &method[..], last].concat();
+        let said = String::from_utf8(command(&words).stderr).unwrap();
+        let what = "is no class file, and no word stands behind it, as add(JJ)J does\n";
+        assert_eq!(said, format!("{}: {what}", text(&sheet)));
+    }
 }

@@ -7,7 +7,7 @@ use common::folder::assert_said;
 use common::marks::folder;
 
 const USAGE: &str =
-    "usage: workbook mark FILE ANSWERS [--steps N], and workbook mark --help says more";
+    "usage: workbook mark FILE [METHOD[DESCRIPTOR] ARGUMENT ...] ANSWERS [--steps N], and workbook mark --help says more";
 
 /// The lines of a file, and what is said with the number of a line.
 const NONE: &str = r#"
@@ -76,7 +76,6 @@ fn wrong_calls_are_a_sentence() {
     let folder = folder("mark-calls");
     for (words, what) in [
         ("loop.sheet", "mark takes a file and a file of answers"),
-        ("a b c", "mark takes a file and a file of answers"),
         ("- -", "only one file is standard input"),
         ("a b --step", "mark has no option --step"),
         ("a b --steps", "--steps takes a number, from 0 on"),
@@ -89,7 +88,7 @@ fn wrong_calls_are_a_sentence() {
     }
     let output = folder.workbook(&["mark", "--help"]);
     let help = String::from_utf8(output.stdout).unwrap();
-    assert!(help.starts_with("usage: workbook mark FILE ANSWERS [--steps N]\n\nSays whether"));
+    assert!(help.starts_with("usage: workbook mark FILE [METHOD[DESCRIPTOR] ARGUMENT ...] ANSWERS [--steps N]\n\nSays whether"));
     assert_eq!(output.status.code(), Some(0));
 }
 
@@ -102,7 +101,7 @@ fn other_files_are_a_sentence() {
     folder.write("d.txt", "max_stack x");
     let text = "is no text in UTF-8, and begins neither as a sheet nor as a class file";
     folder.write("e.txt", b"step \xFF");
-    let class = "is a class file; make a sheet of one of its methods first, with workbook make";
+    let class = "the class file is damaged: it ends at byte 5, inside of a part";
     for (file, answers, what) in [
         ("missing", "a.txt", "missing: there is no such file"),
         ("loop.sheet", "missing", "missing: there is no such file"),

@@ -118,16 +118,15 @@ bytes 41 52 00 00
 
 #[test]
 fn what_cannot_be_shown_is_said() {
-    let usage = "usage: workbook show FILE [--source]\n";
-    let class = "-: is a class file, which the program javap shows: javap -c -v\n";
+    let usage = "usage: workbook show FILE [METHOD[DESCRIPTOR] ARGUMENT ...] [--source]\n";
+    let class = "-: the class file is damaged: it ends at byte 4, inside of a part\n";
     for (words, input, error) in [
         (&["show"][..], &b""[..], usage),
-        (&["show", "a", "b"], b"", usage),
         (&["show", "--source"], b"", usage),
         (
             &["show", "--sorce", "a"],
             b"",
-            "show has no option --sorce; usage: workbook show FILE [--source]\n",
+            "show has no option --sorce; usage: workbook show FILE [METHOD[DESCRIPTOR] ARGUMENT ...] [--source]\n",
         ),
         (&["show", "-"], b"\xCA\xFE\xBA\xBE", class),
         (&["show", "-"], b"", "-: is empty\n"),

@@ -202,9 +202,8 @@ fn a_walk_stands_where_a_run_stands() {
 #[test]
 fn what_is_no_walk_is_said() {
     let folder = Folder::new("walk-wrong");
-    let usage = "usage: workbook walk FILE";
+    let usage = "usage: workbook walk FILE [METHOD[DESCRIPTOR] ARGUMENT ...]";
     assert_said(&folder.workbook(&["walk"]), 2, usage);
-    assert_said(&folder.workbook(&["walk", "a", "b"]), 2, usage);
     let option = format!("walk has no option --steps; {usage}");
     assert_said(&folder.workbook(&["walk", "--steps"]), 2, &option);
     let input = format!("the keys come from standard input, so the file needs a name; {usage}");
@@ -215,8 +214,7 @@ fn what_is_no_walk_is_said() {
     let wrong = folder.workbook(&["walk", "a.txt"]);
     assert_eq!(wrong.status.code(), Some(2));
     folder.write("a.class", [0xCA, 0xFE, 0xBA, 0xBE]);
-    let class = "a.class: is a class file; make a sheet of one of its methods first, \
-                 with workbook make";
+    let class = "a.class: the class file is damaged: it ends at byte 4, inside of a part";
     assert_said(&folder.workbook(&["walk", "a.class"]), 2, class);
     folder.write("a.sheet", sample("refused_handler").sheet);
     let refusal = Refusal::SHEET_HANDLER;

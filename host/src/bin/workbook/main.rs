@@ -8,6 +8,7 @@ mod key;
 mod make;
 mod make_class;
 mod mark;
+mod method;
 mod opcodes;
 mod output;
 mod show;
@@ -28,7 +29,9 @@ const USAGE: &str = "usage: workbook COMMAND ...
                              the answer key of a source or a sheet: every step, and the answer
     mark FILE ANSWERS        whether a learner's answers are right, or the first wrong place
     opcodes                  the page of opcodes, with their names
-    walk FILE                goes through a source or a sheet, forward and back, by keys";
+    walk FILE                goes through a source or a sheet, forward and back, by keys
+
+Behind a class file, show, key, walk and mark take METHOD[DESCRIPTOR] ARGUMENT ... as make does.";
 
 const COMMANDS: [&str; 6] = ["key", "make", "mark", "opcodes", "show", "walk"];
 

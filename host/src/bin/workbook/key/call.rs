@@ -4,7 +4,8 @@ use super::format::Format;
 use super::{html::Html, json::Json, markdown::Markdown, text::Text};
 use crate::failure::Failure;
 
-const USAGE: &str = "usage: workbook key FILE [--steps N] [--format text|markdown|json|html]";
+const USAGE: &str = "usage: workbook key FILE [METHOD[DESCRIPTOR] ARGUMENT ...] [--steps N] \
+     [--format text|markdown|json|html]";
 
 /// How many steps are taken where a call does not say it: enough for any exercise, and a method that
 /// does not end does not fill the disk.
@@ -15,6 +16,8 @@ const STEPS: u64 = 1_000_000;
 pub struct Call<'a> {
     /// The file, or `-`.
     pub file: &'a str,
+    /// The words behind it: a method of a class file, and its arguments.
+    pub method: Vec<&'a str>,
     /// How many steps are taken at most.
     pub steps: u64,
     /// The format of the key.
@@ -67,7 +70,7 @@ impl<'a> Call<'a> {
     ///
     /// Where they make none.
     pub fn of(words: &'a [String]) -> Result<Call<'a>, Failure> {
-        let (mut file, mut steps, mut format) = (None, None, None);
+        let (mut names, mut steps, mut format) = (vec![], None, None);
         let mut words = words.iter().map(String::as_str);
         while let Some(word) = words.next() {
             let once = match word {
@@ -78,19 +81,21 @@ impl<'a> Call<'a> {
                 _ if word.starts_with("--") => {
                     return Err(Failure::Call(format!("there is no option {word}\n{USAGE}")))
                 }
-                _ => file.replace(word).is_none(),
+                _ => {
+                    names.push(word);
+                    true
+                }
             };
             if !once {
-                let what = if word.starts_with("--") {
-                    word
-                } else {
-                    "the file"
-                };
-                return Err(Failure::Call(format!("{what} is given twice\n{USAGE}")));
+                return Err(Failure::Call(format!("{word} is given twice\n{USAGE}")));
             }
         }
+        let Some((file, method)) = names.split_first() else {
+            return Err(Failure::Call(USAGE.to_string()));
+        };
         Ok(Call {
-            file: file.ok_or_else(|| Failure::Call(USAGE.to_string()))?,
+            file,
+            method: method.to_vec(),
             steps: steps.unwrap_or(STEPS),
             format: format.unwrap_or(Name::Text),
         })
@@ -134,7 +139,6 @@ mod tests {
         let number = "--steps takes a number from 0 to 18446744073709551615, not";
         for (words, what) in [
             ("", USAGE.to_string()),
-            ("a b", format!("the file is given twice\n{USAGE}")),
             ("a --step 1", format!("there is no option --step\n{USAGE}")),
             ("a --steps", format!("what comes after --steps?\n{USAGE}")),
             (

@@ -10,8 +10,7 @@ pub mod steps;
 mod text;
 
 use crate::failure::{said, Failure};
-use crate::input::{self, Input};
-use crate::make::of_source;
+use crate::method::sheet;
 use call::Call;
 use progress::Progress;
 use std::io::{self, BufWriter, Write};
@@ -29,7 +28,7 @@ const GATHERED: usize = 1 << 16;
 /// ends the key without an error, as `head` closes it.
 pub fn run(words: &[String]) -> Result<(), Failure> {
     let call = Call::of(words)?;
-    let walk = Walk::open_with_log(sheet(call.file)?, 0)
+    let walk = Walk::open_with_log(sheet(call.file, &call.method)?, 0)
         .map_err(|refusal| Failure::of_sheet(call.file, &refusal))?;
     let mut out = BufWriter::with_capacity(GATHERED, io::stdout().lock());
     let written = write(&walk, &call, &mut out).and_then(|()| out.flush());
@@ -38,22 +37,6 @@ pub fn run(words: &[String]) -> Result<(), Failure> {
             Err(Failure::of_file("standard output", said(&error)))
         }
         _ => Ok(()),
-    }
-}
-
-/// The sheet of a file.
-///
-/// # Errors
-///
-/// Where the file cannot be read, is a class file, or is a source that is wrong.
-pub fn sheet(file: &str) -> Result<Vec<u8>, Failure> {
-    match input::read(file)? {
-        Input::Sheet(bytes) => Ok(bytes),
-        Input::Source(text) => of_source(file, &text),
-        Input::Class(_) => Err(Failure::of_file(
-            file,
-            "is a class file; make a sheet of one of its methods first, with workbook make",
-        )),
     }
 }
 

@@ -25,12 +25,13 @@ mod truth;
 
 use crate::failure::Failure;
 use crate::input::{self, Input};
-use crate::key::sheet;
+use crate::method::sheet;
 use crate::output::print;
 use answers::Answers;
 use workbook_host::Walk;
 
-const USAGE: &str = "usage: workbook mark FILE ANSWERS [--steps N]";
+const USAGE: &str =
+    "usage: workbook mark FILE [METHOD[DESCRIPTOR] ARGUMENT ...] ANSWERS [--steps N]";
 
 /// What the answers are like, for `--help`.
 const FORMAT: &str = "
@@ -60,8 +61,11 @@ pub fn run(words: &[String]) -> Result<(), Failure> {
     if words == ["--help"] {
         return print(&format!("{USAGE}\n{FORMAT}"));
     }
-    let (file, answers, steps) = call(words)?;
-    let bytes = sheet(file)?;
+    let (names, steps) = call(words)?;
+    let [file, method @ .., answers] = &names[..] else {
+        return Err(wrong("mark takes a file and a file of answers"));
+    };
+    let bytes = sheet(file, method)?;
     let answers = match input::read(answers)? {
         Input::Source(text) => Answers::read(&text)
             .map_err(|(line, what)| Failure::of_file(&format!("{answers}:{line}"), what))?,
@@ -78,8 +82,8 @@ pub fn run(words: &[String]) -> Result<(), Failure> {
     })
 }
 
-/// The file, the answers and the most steps of a call.
-fn call(words: &[String]) -> Result<(&str, &str, u64), Failure> {
+/// The words of a call that are no option, and the most steps.
+fn call(words: &[String]) -> Result<(Vec<&str>, u64), Failure> {
     let (mut names, mut steps) = (vec![], None);
     let mut words = words.iter().map(String::as_str);
     while let Some(word) = words.next() {
@@ -93,9 +97,8 @@ fn call(words: &[String]) -> Result<(&str, &str, u64), Failure> {
         }
     }
     match names[..] {
-        ["-", "-"] => Err(wrong("only one file is standard input")),
-        [file, answers] => Ok((file, answers, steps.unwrap_or(STEPS))),
-        _ => Err(wrong("mark takes a file and a file of answers")),
+        ["-", .., "-"] => Err(wrong("only one file is standard input")),
+        _ => Ok((names, steps.unwrap_or(STEPS))),
     }
 }
 

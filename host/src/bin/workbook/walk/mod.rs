@@ -10,14 +10,14 @@ mod session;
 mod terminal;
 
 use crate::failure::{said, Failure};
-use crate::key::sheet;
+use crate::method::sheet;
 use course::Course;
 use session::Session;
 use std::io::{self, IsTerminal};
 use terminal::Settings;
 use workbook_host::Walk;
 
-const USAGE: &str = "usage: workbook walk FILE";
+const USAGE: &str = "usage: workbook walk FILE [METHOD[DESCRIPTOR] ARGUMENT ...]";
 
 /// Walks through the method of a file until the keys end.
 ///
@@ -26,8 +26,9 @@ const USAGE: &str = "usage: workbook walk FILE";
 /// A wrong call or file, a refused sheet, or an input or output that fails. An output that is closed
 /// ends the walk without an error.
 pub fn run(words: &[String]) -> Result<(), Failure> {
-    let name = file(words)?;
-    let start = Walk::open_with_log(sheet(name)?, 0)
+    let (name, method) = file(words)?;
+    let method: Vec<&str> = method.iter().map(String::as_str).collect();
+    let start = Walk::open_with_log(sheet(name, &method)?, 0)
         .map_err(|refusal| Failure::of_sheet(name, &refusal))?;
     let session = Session::new(Course::new(start));
     let ended = match raw_settings() {
@@ -48,16 +49,16 @@ fn raw_settings() -> Option<Settings> {
     terminals.then(Settings::raw)?.ok()
 }
 
-/// The file of a call.
-fn file(words: &[String]) -> Result<&str, Failure> {
+/// The file of a call, and the words behind it.
+fn file(words: &[String]) -> Result<(&str, &[String]), Failure> {
     match words {
-        [name] if name == "-" => Err(Failure::Call(format!(
+        [name, ..] if name == "-" => Err(Failure::Call(format!(
             "the keys come from standard input, so the file needs a name; {USAGE}"
         ))),
-        [option] if option.starts_with("--") => Err(Failure::Call(format!(
+        [option, ..] if option.starts_with("--") => Err(Failure::Call(format!(
             "walk has no option {option}; {USAGE}"
         ))),
-        [name] => Ok(name),
-        _ => Err(Failure::Call(USAGE.to_string())),
+        [name, method @ ..] => Ok((name, method)),
+        [] => Err(Failure::Call(USAGE.to_string())),
     }
 }
