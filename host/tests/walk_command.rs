@@ -33,7 +33,9 @@ fn last(name: &str, keys: &str) -> (String, String) {
     let screens = of_sample(name, keys);
     let mut lines = screens.last().unwrap().lines();
     let (first, last) = (lines.next().unwrap(), lines.next_back().unwrap());
-    (first.to_string(), last.to_string())
+    // Without what the method returns.
+    let step = first.split(',').next().unwrap();
+    (step.to_string(), last.to_string())
 }
 
 #[track_caller]
@@ -220,4 +222,15 @@ fn what_is_no_walk_is_said() {
     let refusal = Refusal::SHEET_HANDLER;
     let refused = format!("a.sheet: the sheet is refused: {refusal}");
     assert_said(&folder.workbook(&["walk", "a.sheet"]), 1, &refused);
+}
+
+#[test]
+fn what_a_method_returns_is_shown() {
+    let screens = of_sample("byte_return", "f\n");
+    assert!(
+        screens[1].starts_with("step 1, returns byte\n"),
+        "{screens:?}"
+    );
+    let screens = of_sample("loop", "f\n");
+    assert!(screens[1].starts_with("step 1\n"), "{screens:?}");
 }

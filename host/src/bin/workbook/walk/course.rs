@@ -4,7 +4,7 @@ use std::collections::VecDeque;
 use std::ops::Range;
 use workbook_host::kinds::Kinds;
 use workbook_host::shown::{values, Shown};
-use workbook_host::{back, forward, step, Answer, Refusal, State, Walk, LOG_WORDS};
+use workbook_host::{back, forward, step, Answer, Refusal, ReturnType, State, Walk, LOG_WORDS};
 
 /// How many steps a walk has at most. Each takes 40 bytes, so a method that does not end does not
 /// fill the memory.
@@ -74,6 +74,11 @@ impl Course {
     /// The whole sheet.
     pub fn sheet(&self) -> &[u8] {
         self.start.sheet()
+    }
+
+    /// What the method returns.
+    pub fn return_type(&self) -> ReturnType {
+        self.start.return_type()
     }
 
     /// The code.

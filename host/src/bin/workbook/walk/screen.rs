@@ -4,7 +4,7 @@ use super::course::Course;
 use crate::key::format::placed;
 use std::ops::Range;
 use workbook_host::shown::Shown;
-use workbook_host::{listing, mnemonics};
+use workbook_host::{listing, mnemonics, ReturnType};
 
 /// How many lines and columns there are.
 #[derive(Clone, Copy, Debug, PartialEq, Eq)]
@@ -15,8 +15,10 @@ pub struct Size {
     pub columns: usize,
 }
 
-/// What every screen of a method has: its listing.
+/// What every screen of a method has: its listing, and what it returns.
 pub struct Screen {
+    /// What is said behind the number of the step, where there is a descriptor.
+    returns: String,
     /// The lines of the instructions, where one begins with its offset.
     listing: Vec<(Option<u32>, String)>,
 }
@@ -30,13 +32,18 @@ struct Part<'a> {
 }
 
 impl Screen {
-    /// Of a sheet that is loaded.
-    pub fn of(sheet: &[u8]) -> Screen {
+    /// Of a sheet that is loaded, and what its method returns.
+    pub fn of(sheet: &[u8], return_type: ReturnType) -> Screen {
         let text = listing::listing_of_bytes(sheet);
         let lines = text
             .lines()
             .take_while(|line| !line.starts_with("max_stack"));
+        let returns = match return_type {
+            ReturnType::NONE => String::new(),
+            known => format!(", returns {known}"),
+        };
         Screen {
+            returns,
             listing: lines.map(|line| (offset(line), line.to_string())).collect(),
         }
     }
@@ -56,7 +63,7 @@ impl Screen {
         let of_locals = places(&locals, (rows / 2).saturating_sub(of_stack));
         let of_code = places(&code, rows.saturating_sub(of_stack + of_locals));
 
-        let mut lines = vec![format!("step {}", course.count())];
+        let mut lines = vec![format!("step {}{}", course.count(), self.returns)];
         lines.extend(code.window(of_code).1);
         lines.extend(locals.titled("locals", of_locals, "none"));
         lines.extend(stack.titled("operand stack, top first", of_stack, "empty"));

@@ -17,7 +17,7 @@ impl Session {
     /// At the start of a walk.
     pub fn new(course: Course) -> Session {
         Session {
-            screen: Screen::of(course.sheet()),
+            screen: Screen::of(course.sheet(), course.return_type()),
             course,
             message: format!("{}; ? shows the keys", message::START),
         }
