@@ -3,6 +3,7 @@
 
 mod common;
 
+use common::folder::{given, program};
 use common::{sample_path, samples, sheet};
 use std::io::Write;
 use std::process::{Command, Stdio};
@@ -13,16 +14,7 @@ use workbook_host::source;
 type Given = (i32, String, String);
 
 fn workbook(words: &[&str], input: &[u8]) -> Given {
-    let mut child = Command::new(env!("CARGO_BIN_EXE_workbook"))
-        .args(words)
-        .stdin(Stdio::piped())
-        .stdout(Stdio::piped())
-        .stderr(Stdio::piped())
-        .spawn()
-        .unwrap();
-    // A program that reads no input is no failure here.
-    let _ = child.stdin.take().unwrap().write_all(input);
-    let output = child.wait_with_output().unwrap();
+    let output = given(Command::new(program()).args(words), input);
     let text = |bytes| String::from_utf8(bytes).unwrap();
     let status = output.status.code().unwrap();
     (status, text(output.stdout), text(output.stderr))

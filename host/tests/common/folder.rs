@@ -38,18 +38,18 @@ impl Folder {
 
     /// What the program gives in this folder, with bytes through a pipe on standard input.
     pub fn workbook_given(&self, words: &[&str], input: &[u8]) -> Output {
-        let mut child = Command::new(program())
-            .args(words)
-            .current_dir(&self.path)
-            .stdin(Stdio::piped())
-            .stdout(Stdio::piped())
-            .stderr(Stdio::piped())
-            .spawn()
-            .unwrap();
-        // A program that has ended reads nothing, which is no failure of the call.
-        let _ = child.stdin.take().unwrap().write_all(input);
-        child.wait_with_output().unwrap()
+        let mut command = Command::new(program());
+        given(command.args(words).current_dir(&self.path), input)
     }
+}
+
+/// What a command gives, with bytes through a pipe on standard input.
+pub fn given(command: &mut Command, input: &[u8]) -> Output {
+    let command = command.stdin(Stdio::piped()).stdout(Stdio::piped());
+    let mut child = command.stderr(Stdio::piped()).spawn().unwrap();
+    // A program that has ended reads nothing, which is no failure of the call.
+    let _ = child.stdin.take().unwrap().write_all(input);
+    child.wait_with_output().unwrap()
 }
 
 impl Drop for Folder {
