@@ -15,7 +15,7 @@ use Rattle.rules.specs.Step.{words_at, inside, outcome, decision, decide_frame, 
 use Rattle.rules.specs.Run.{ends, run_from}
 use Rattle.std.specs.Prelude.{Bool, true, false, ltb, Ok, Err, Some, None}
 use Rattle.rules.specs.declared.refusals.Refusal.{Refusal}
-use Rattle.rules.specs.declared.halts.Halt.TheVariants.{Refused}
+use Rattle.rules.specs.declared.halts.Halt.TheVariants.{Return, Throw, Refused}
 use Rattle.rules.specs.declared.halts.Halt.{Halt}
 
 -- ---- question 10
@@ -71,7 +71,9 @@ module _ (x : Machine) (b n : ℕ) (s : State) (slots : List ℕ) where
 
   pub run_halted : (h : Halt) → (decide_on x s slots).decision ≡ Err h → run_from x (suc b) n s slots ≡ ends s (cleared s (decide_on x s slots).scratch slots) n (Some h)
   unfolding run_from
-  run_halted h e = rw (e, run_from)
+  run_halted (Return v) e = rw (e, run_from)
+  run_halted Throw e = rw (e, run_from)
+  run_halted (Refused r) e = rw (e, run_from)
 
 -- with no budget left there is no further look
 pub run_stopped : (x : Machine) (n : ℕ) (s : State) (slots : List ℕ) → run_from x zero n s slots ≡ ends s slots n None
