@@ -4,6 +4,7 @@ use instructions::opcodes::*;
 use instructions::{Entry, decode, entry};
 use operands::{lookup_offset, read_code_u8, table_offset};
 use rules::{Method, Refusal};
+use walks::Pool;
 
 // Three numbers, 0 where there is none, or a refusal.
 pub(crate) type Answer = Result<[u64; 3], Refusal>;
@@ -41,13 +42,19 @@ pub(crate) fn branch(code: &[u8], pc: u32, key: u32) -> Option<Answer> {
     Some(Ok([offset.into(), 0, 0]))
 }
 
-// The words of the constant at an index of a method's pool, for an opcode that loads one; none for any other.
-pub(crate) fn constant(method: &Method, index: u32, opcode: u32) -> Option<Answer> {
+// The words of the constant at an index of a pool, for an opcode that loads one; none for any other.
+pub(crate) fn constant(pool: &Pool, index: u32, opcode: u32) -> Option<Answer> {
     let width = match u8::try_from(opcode) {
         Ok(LDC) => Width::One,
         Ok(LDC2_W) => Width::Two,
         _ => return None,
     };
-    let found = load_constant(method, index, width);
+    let method = Method {
+        code: &[],
+        kinds: pool.kinds,
+        words: pool.words,
+        handlers: &[],
+    };
+    let found = load_constant(&method, index, width);
     Some(found.map(|found| [found.low.into(), found.high.into(), 0]))
 }

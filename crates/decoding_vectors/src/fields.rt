@@ -1,9 +1,7 @@
-// The fields of a line. judge/src/lists/decoding says how a line is laid out.
+// The fields of a line; none where a line is no vector. judge/src/lists/decoding says how a line is laid out.
 ghost use Rattle.std.specs.Prelude.{◌≤◌};
 
-use crate::failures::Failure;
-use reading::hexadecimal;
-use std::alloc::Global;
+use reading::{digit_value, hexadecimal};
 use walks::Pool;
 
 // A line, its line feed included.
@@ -15,12 +13,16 @@ const BYTE: usize = 2;
 const CONSTANT: usize = 10;
 
 // The number in some columns, all of them digits.
-pub(crate) fn number<T: TryFrom<u64>>(columns: &[u8]) -> Result<T, Failure>
+pub(crate) fn number<T: TryFrom<u64>>(columns: &[u8]) -> Option<T>
 where
     T::Error: Drop,
 {
-    let value = hexadecimal(columns).ok_or(Failure::Malformed)?;
-    T::try_from(value).map_err(|_| Failure::Malformed)
+    T::try_from(hexadecimal(columns)?).ok()
+}
+
+// The byte in two columns, both of them digits.
+fn byte(high: u8, low: u8) -> Option<u8> {
+    Some(digit_value(high)? << 4 | digit_value(low)?)
 }
 
 // Whether a space stands between the columns, and a line feed at the end.
@@ -31,7 +33,7 @@ pub(crate) fn is_laid_out(line: &Line) -> bool {
 }
 
 // The answer that a line expects: three numbers, or that of a refusal, with which no other goes.
-pub(crate) fn expected(line: &Line) -> Result<Result<[u64; 3], u32>, Failure> {
+pub(crate) fn expected(line: &Line) -> Option<Result<[u64; 3], u32>> {
     let refusal = number(&line[25..27])?;
     let numbers = [
         number(&line[28..36])?,
@@ -39,47 +41,54 @@ pub(crate) fn expected(line: &Line) -> Result<Result<[u64; 3], u32>, Failure> {
         number(&line[46..54])?,
     ];
     match (refusal, numbers) {
-        (0, _) => Ok(Ok(numbers)),
-        (_, [0, 0, 0]) => Ok(Err(refusal)),
-        _ => Err(Failure::Malformed),
+        (0, _) => Some(Ok(numbers)),
+        (_, [0, 0, 0]) => Some(Err(refusal)),
+        _ => None,
     }
 }
 
 // So many entries of a line, of so many columns each; after them it has to be blank.
-fn entries(line: &Line, count: u8, columns: usize) -> Result<&[u8], Failure>
+fn entries(line: &Line, count: u8, columns: usize) -> Option<&[u8]>
     requires { columns ≤ 10 }
 {
     let bytes = &line[58..186];
     let end = usize::from(count) * columns;
     if end > bytes.len() {
-        return Err(Failure::Malformed);
+        return None;
     }
-    if bytes[end..].iter().any(|byte| *byte != b' ') {
-        return Err(Failure::Malformed);
-    }
-    Ok(&bytes[..end])
+    let (entries, rest) = bytes.split_at(end);
+    // not `any`: without an early end several bytes are tested at a time
+    let is_blank = rest
+        .iter()
+        .fold(true, |is_blank, byte| is_blank & (*byte == b' '));
+    if is_blank { Some(entries) } else { None }
 }
 
-// The bytes of a line as code.
-pub(crate) fn code_of(alloc: Global, line: &Line, count: u8) -> Result<Vec<u8>, Failure> {
+// The bytes of a line as code, in the first places of what is lent.
+pub(crate) fn code_of<'a>(lent: &'a mut [u8], line: &Line, count: u8) -> Option<&'a [u8]> {
     let (entries, _) = entries(line, count, BYTE)?.as_chunks::<BYTE>();
-    let mut code = Vec::new(alloc);
-    for columns in entries {
-        code.push(number(columns)?)?;
+    let code = lent.get_mut(..entries.len())?;
+    for (place, columns) in code.iter_mut().zip(entries) {
+        *place = byte(columns[0], columns[1])?;
     }
-    Ok(code)
+    Some(code)
 }
 
-// The bytes of a line as entries of a constant pool.
-pub(crate) fn pool_of(alloc: Global, line: &Line, count: u8) -> Result<Pool, Failure> {
+// The bytes of a line as entries of a constant pool, in the first places of what is lent.
+pub(crate) fn pool_of<'a>(
+    kinds: &'a mut [u8],
+    words: &'a mut [u32],
+    line: &Line,
+    count: u8,
+) -> Option<Pool<'a>> {
     let (entries, _) = entries(line, count, CONSTANT)?.as_chunks::<CONSTANT>();
-    let mut pool = Pool {
-        kinds: Vec::new(alloc),
-        words: Vec::new(alloc),
-    };
-    for columns in entries {
-        pool.kinds.push(number(&columns[..BYTE])?)?;
-        pool.words.push(number(&columns[BYTE..])?)?;
+    let kinds = kinds.get_mut(..entries.len())?;
+    let words = words.get_mut(..entries.len())?;
+    for (kind, columns) in kinds.iter_mut().zip(entries) {
+        *kind = number(&columns[..BYTE])?;
     }
-    Ok(pool)
+    for (word, columns) in words.iter_mut().zip(entries) {
+        *word = number(&columns[BYTE..])?;
+    }
+    Some(Pool { kinds, words })
 }

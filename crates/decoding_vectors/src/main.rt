@@ -3,14 +3,10 @@
 #![tactic(auto)]
 
 mod answers;
-mod failures;
 mod fields;
 
-use crate::failures::Failure;
 use crate::fields::{Line, code_of, expected, is_laid_out, number, pool_of};
 use reading::read_record;
-use rules::Method;
-use std::alloc::Global;
 use std::io;
 use vectors::Tally;
 
@@ -35,49 +31,33 @@ fn kind_of(line: &Line) -> Option<Kind> {
     }
 }
 
-// Whether a vector of a kind holds. No key goes with an instruction.
-fn vector_holds(alloc: Global, line: &Line, kind: Kind) -> Result<bool, Failure> {
+// Whether a vector of a kind holds; none where it is malformed. No key goes with an instruction.
+fn vector_holds(line: &Line, kind: Kind) -> Option<bool> {
     let at = number(&line[7..15])?;
     let key = number(&line[16..24])?;
     let count = number(&line[55..57])?;
+    let mut code = [0; 64];
+    let mut kinds = [0; 12];
+    let mut words = [0; 12];
     let answer = match kind {
         Kind::Decode if key != 0 => None,
-        Kind::Decode => {
-            let code = code_of(alloc, line, count)?;
-            answers::instruction(&code, at)
-        }
-        Kind::Switch => {
-            let code = code_of(alloc, line, count)?;
-            answers::branch(&code, at, key)
-        }
+        Kind::Decode => answers::instruction(code_of(&mut code, line, count)?, at),
+        Kind::Switch => answers::branch(code_of(&mut code, line, count)?, at, key),
         Kind::Pool => {
-            let pool = pool_of(alloc, line, count)?;
-            let method = Method {
-                code: &[],
-                kinds: &pool.kinds,
-                words: &pool.words,
-                handlers: &[],
-            };
-            answers::constant(&method, at, key)
+            let pool = pool_of(&mut kinds, &mut words, line, count)?;
+            answers::constant(&pool, at, key)
         }
     };
     let answer = answer.map(|found| found.map_err(|refusal| refusal.number()));
-    Ok(answer == Some(expected(line)?))
+    Some(answer == Some(expected(line)?))
 }
 
 // Whether a line is a vector that holds.
-fn holds(alloc: Global, line: &Line, kind: Option<Kind>) -> io::Result<bool> {
+fn holds(line: &Line, kind: Option<Kind>) -> bool {
     let Some(kind) = kind else {
-        return Ok(false);
+        return false;
     };
-    if !is_laid_out(line) {
-        return Ok(false);
-    }
-    match vector_holds(alloc, line, kind) {
-        Ok(is_right) => Ok(is_right),
-        Err(Failure::Malformed) => Ok(false),
-        Err(Failure::OutOfMemory(error)) => Err(error.into()),
-    }
+    is_laid_out(line) && vector_holds(line, kind).unwrap_or(false)
 }
 
 // Reads line by line, and prints the tally of each kind and of all. A line of no kind counts among all only.
@@ -92,7 +72,7 @@ fn main(rt: HostRuntime) -> io::Result<()> {
             break;
         };
         let kind = kind_of(&line);
-        let is_right = holds(rt.alloc(), &line, kind)?;
+        let is_right = holds(&line, kind);
         match kind {
             Some(Kind::Decode) => decodes.count(is_right),
             Some(Kind::Switch) => switches.count(is_right),

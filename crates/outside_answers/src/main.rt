@@ -8,7 +8,6 @@ use crate::ends::print_line;
 use interpreter::run;
 use reading::{read_bytes, read_record};
 use std::io;
-use std::io::Read;
 use walks::Memory;
 
 // More methods than any file has, and more steps than any that ends takes.
@@ -16,33 +15,25 @@ const MOST: u64 = 1_000_000;
 
 const BUDGET: u64 = 10_000_000;
 
-// The longest sheet that is loaded.
-const LONGEST: usize = 8192;
-
-// Reads a sheet of some bytes, and runs its method; the bits of a NaN are shown only if they are asked for.
-fn trial<R: Print + AllocGlobal>(
-    rt: &R,
-    stdin: &mut impl Read,
-    length: usize,
-    bits: bool,
-) -> io::Result<()> {
-    if length > LONGEST {
-        return Ok(());
-    }
-    let sheet = read_bytes(rt.alloc(), stdin, length)?;
-    let mut memory = Memory::zeroed(rt.alloc(), 131072, 65536)?;
-    match memory.pool.load(&sheet, &mut memory.slots) {
+// Loads a sheet, and runs its method; the bits of a NaN are shown only if they are asked for.
+fn trial(rt: &impl Print, sheet: &[u8], memory: &mut Memory, bits: bool) -> io::Result<()> {
+    match memory.pool.load(sheet, memory.slots) {
         Err(refusal) => println!(rt; "sheet {}", refusal.number()),
         Ok(loaded) => {
-            let method = memory.pool.method(&sheet, loaded);
-            let ran = run(&method, &mut memory.slots, loaded.state, BUDGET);
+            let method = memory.pool.method(sheet, loaded);
+            let ran = run(&method, memory.slots, loaded.state, BUDGET);
             print_line(rt, ran.end, bits)
         }
     }
 }
 
-// Runs each method. Of four bytes the first says whether the bits of a NaN are to be shown, and the others how long the sheet is, the high ones first.
+// Reads each sheet of at most 8,192 bytes and tries it. Of four bytes the first says whether the bits of a NaN are to be shown, and the others how long
+// the sheet is, the high ones first.
 fn main(rt: HostRuntime) -> io::Result<()> {
+    let mut bytes = [0; 8192];
+    let mut slots = [0; 131072];
+    let mut kinds = [0; 65536];
+    let mut words = [0; 65536];
     let mut stdin = rt.stdin();
     for _ in 0..MOST {
         let Some(head) = read_record::<_, 4>(&mut stdin, 0)? else {
@@ -51,7 +42,12 @@ fn main(rt: HostRuntime) -> io::Result<()> {
         let [bits, high, middle, low] = head;
         // `usize` has no `From<u32>`
         let length = u32::from_be_bytes([0, high, middle, low]) as usize;
-        trial(&rt, &mut stdin, length, bits > 0)?;
+        if length > bytes.len() {
+            continue;
+        }
+        let sheet = read_bytes(&mut stdin, &mut bytes[..length])?;
+        let mut memory = Memory::zeroed(&mut slots, &mut kinds, &mut words);
+        trial(&rt, sheet, &mut memory, bits > 0)?;
     }
     Ok(())
 }

@@ -1,22 +1,18 @@
 // A run beside a list of presses: both must end at the same place.
 use crate::memory::Memory;
-use interpreter::run;
+use interpreter::{Ran, run};
 use printing::Ending;
-use rules::State;
+use rules::{Loaded, State};
 use std::io;
 
-// Loads a sheet into the other slots, runs there as many steps as a list's count, and prints whether the run ended at the offset, the depth and the slots that the list left.
-pub(crate) fn run_beside(
-    rt: &impl Print,
-    sheet: &[u8],
-    memory: &mut Memory,
-    left: State,
-) -> io::Result<()> {
-    let Ok(loaded) = memory.pool.load(sheet, &mut memory.others) else {
-        return Ok(());
-    };
+// Runs so many steps on the other slots, from what a load left.
+fn run_loaded(sheet: &[u8], memory: &mut Memory, loaded: Loaded, budget: u64) -> Ran {
     let method = memory.pool.method(sheet, loaded);
-    let ran = run(&method, &mut memory.others, loaded.state, left.count);
+    run(&method, memory.others, loaded.state, budget)
+}
+
+// Prints a run, and whether it ended at the offset, the depth and the slots that a list left.
+fn print_beside(rt: &impl Print, memory: &Memory, left: State, ran: Ran) -> io::Result<()> {
     println!(rt;
         "run {} {} {}",
         left.count,
@@ -24,6 +20,20 @@ pub(crate) fn run_beside(
         Ending(ran.end).name()
     )?;
     let is_same_state = left.pc == ran.state.pc && left.depth == ran.state.depth;
-    let is_same = is_same_state && memory.slots == memory.others;
+    let is_same = is_same_state && &*memory.slots == &*memory.others;
     println!(rt; "{}", if is_same { "same" } else { "differs" })
+}
+
+// Loads a sheet into the other slots, and runs there as many steps as a list's count.
+pub(crate) fn run_beside(
+    rt: &impl Print,
+    sheet: &[u8],
+    memory: &mut Memory,
+    left: State,
+) -> io::Result<()> {
+    let Ok(loaded) = memory.pool.load(sheet, memory.others) else {
+        return Ok(());
+    };
+    let ran = run_loaded(sheet, memory, loaded, left.count);
+    print_beside(rt, memory, left, ran)
 }

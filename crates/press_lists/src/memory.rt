@@ -1,25 +1,39 @@
 // What is lent beside a sample's log.
 use crate::samples::Sizes;
-use std::alloc::{AllocError, Global};
 use walks::Pool;
 
 // Slots for the list and for a run beside it, a constant pool, and the words of the answers.
 #[derive(Drop)]
-pub(crate) struct Memory {
-    pub slots: Vec<u32>,
-    pub others: Vec<u32>,
-    pub pool: Pool,
-    pub answers: Vec<u32>,
+pub(crate) struct Memory<'a> {
+    pub slots: &'a mut [u32],
+    pub others: &'a mut [u32],
+    pub pool: Pool<'a>,
+    pub answers: &'a mut [u32],
 }
 
-impl Memory {
-    // Memory that holds junk.
-    pub(crate) fn junk(alloc: Global, sizes: Sizes) -> Result<Memory, AllocError> {
-        Ok(Memory {
-            slots: vec![in alloc; 0xBEEF_BEEF; sizes.slots]?,
-            others: vec![in alloc; 0xBEEF_BEEF; sizes.slots]?,
-            pool: Pool::filled(alloc, sizes.pool, 0xAB, 0xDEAD_DEAD)?,
-            answers: vec![in alloc; 0xFACE_FACE; sizes.answers]?,
+impl<'a> Memory<'a> {
+    // The first places, as many as a sample wants, with junk in them; none where there are fewer.
+    pub(crate) fn junk(self, sizes: Sizes) -> Option<Memory<'a>> {
+        let Memory {
+            slots,
+            others,
+            pool: Pool { kinds, words },
+            answers,
+        } = self;
+        let slots = slots.get_mut(..sizes.slots)?;
+        let others = others.get_mut(..sizes.slots)?;
+        let kinds = kinds.get_mut(..sizes.pool)?;
+        let words = words.get_mut(..sizes.pool)?;
+        let answers = answers.get_mut(..sizes.answers)?;
+        slots.fill(0xBEEF_BEEF);
+        others.fill(0xBEEF_BEEF);
+        answers.fill(0xFACE_FACE);
+        let pool = Pool::filled(kinds, words, 0xAB, 0xDEAD_DEAD);
+        Some(Memory {
+            slots,
+            others,
+            pool,
+            answers,
         })
     }
 }

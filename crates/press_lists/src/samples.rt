@@ -1,16 +1,20 @@
 // The samples on standard input: a head of 80 bytes, then the sheet, the log's words and the presses.
 use integers::join_words;
 use reading::{read_bytes, word_at};
-use std::alloc::{AllocError, Global};
 use std::io;
 use std::io::Read;
 
 // The head of a sample.
 pub(crate) type Head = [u8; 80];
 
-// The name in a head, without the blanks after it; not `first_word`, for the name may be of several words.
+// The name in a head, without the blanks after it; not `first_word`, for the name may be of several words, and not
+// `trim_ascii_end`, which cuts tabs and ends of lines too.
 pub(crate) fn name_of(head: &Head) -> &[u8] {
-    head[..40].trim_ascii_end()
+    let name = &head[..40];
+    match name.iter().rposition(|byte| *byte != b' ') {
+        Some(last) => &name[..last + 1],
+        None => &[],
+    }
 }
 
 // How much is lent of each part, and how much is read.
@@ -25,16 +29,6 @@ pub(crate) struct Sizes {
 }
 
 impl Sizes {
-    // The most that a sample may have.
-    const MOST: Sizes = Sizes {
-        slots: 64,
-        pool: 16,
-        log: 1200,
-        presses: 1000,
-        answers: 3008,
-        sheet: 512,
-    };
-
     // The sizes in a head, after the name; by `as`, for `usize` has no `From<u32>`.
     fn of(head: &Head) -> Sizes {
         Sizes {
@@ -45,14 +39,6 @@ impl Sizes {
             answers: word_at(head, 56) as usize,
             sheet: word_at(head, 60) as usize,
         }
-    }
-
-    // Whether no part is longer than a sample's may be.
-    pub(crate) fn are_kept(&self) -> bool {
-        let most = Self::MOST;
-        let memory = self.slots <= most.slots && self.pool <= most.pool;
-        let log = self.log <= most.log && self.answers <= most.answers;
-        memory && log && self.sheet <= most.sheet && self.presses <= most.presses
     }
 }
 
@@ -76,46 +62,69 @@ impl Begin {
 }
 
 // A sample: its sizes, where its list begins, the sheet, the log's words, and a byte for each press.
+// The log, which is written, has a lifetime of its own.
 #[derive(Drop)]
-pub(crate) struct Sample {
+pub(crate) struct Sample<'a, 'b> {
     pub sizes: Sizes,
     pub begin: Begin,
-    pub sheet: Vec<u8>,
-    pub log: Vec<u32>,
-    pub presses: Vec<u8>,
+    pub sheet: &'a [u8],
+    pub log: &'b mut [u32],
+    pub presses: &'a [u8],
+}
+
+impl Sample<'_, '_> {
+    // Whether each part is as long as the head says; one that is too long for what is lent was cut.
+    pub(crate) fn is_whole(&self) -> bool {
+        let sizes = self.sizes;
+        self.sheet.len() == sizes.sheet
+            && self.log.len() == sizes.log
+            && self.presses.len() == sizes.presses
+    }
 }
 
 // So many bytes; none of a part that is too long.
-fn read_part(
-    alloc: Global,
+fn read_part<'a>(stdin: &mut impl Read, bytes: &'a mut [u8], count: usize) -> io::Result<&'a [u8]> {
+    let count = if count <= bytes.len() { count } else { 0 };
+    read_bytes(stdin, &mut bytes[..count])
+}
+
+// The words of a log, four bytes each, the high ones first; only the first ones of a log that is too long. They are read 64 at a time.
+fn read_log<'a>(
     stdin: &mut impl Read,
+    log: &'a mut [u32],
     count: usize,
-    most: usize,
-) -> io::Result<Vec<u8>> {
-    read_bytes(alloc, stdin, if count <= most { count } else { 0 })
+) -> io::Result<&'a mut [u32]> {
+    let count = count.min(log.len());
+    let log = &mut log[..count];
+    for words in log.chunks_mut(64) {
+        let mut bytes = [0; 256];
+        let (bytes, _) = bytes.split_at_mut(4 * words.len());
+        let (parts, _) = read_bytes(stdin, bytes)?.as_chunks::<4>();
+        for (word, part) in words.iter_mut().zip(parts) {
+            *word = u32::from_be_bytes(*part);
+        }
+    }
+    Ok(log)
 }
 
-// The words in bytes, four each, the high ones first.
-fn words_of(alloc: Global, bytes: &[u8]) -> Result<Vec<u32>, AllocError> {
-    let (words, _) = bytes.as_chunks::<4>();
-    words
-        .iter()
-        .map(|word| u32::from_be_bytes(*word))
-        .collect(alloc)
-}
-
-// The sample after a head.
-pub(crate) fn read_sample(alloc: Global, stdin: &mut impl Read, head: &Head) -> io::Result<Sample> {
+// The sample after a head, in the memory that is lent for its parts.
+pub(crate) fn read_sample<'a, 'b>(
+    stdin: &mut impl Read,
+    head: &Head,
+    sheet: &'a mut [u8],
+    log: &'b mut [u32],
+    presses: &'a mut [u8],
+) -> io::Result<Sample<'a, 'b>> {
     let sizes = Sizes::of(head);
-    let most = Sizes::MOST;
-    let sheet = read_part(alloc, stdin, sizes.sheet, most.sheet)?;
-    let log = read_bytes(alloc, stdin, 4 * sizes.log.min(most.log))?;
-    let presses = read_part(alloc, stdin, sizes.presses, most.presses)?;
+    let begin = Begin::of(head);
+    let sheet = read_part(stdin, sheet, sizes.sheet)?;
+    let log = read_log(stdin, log, sizes.log)?;
+    let presses = read_part(stdin, presses, sizes.presses)?;
     Ok(Sample {
         sizes,
-        begin: Begin::of(head),
+        begin,
         sheet,
-        log: words_of(alloc, &log)?,
+        log,
         presses,
     })
 }

@@ -6,7 +6,7 @@ use crate::tally::Tally;
 use history::presses;
 use interpreter::moved;
 use printing::{checksum, print_list, print_state, print_words};
-use rules::{Loaded, State};
+use rules::{Loaded, Refusal, State};
 use std::io;
 
 // Prints an answer as the C interface has it, in words: its number, and the value of a return.
@@ -20,17 +20,11 @@ fn print_answer(rt: &impl Print, answer: &[u32; 3]) -> io::Result<()> {
 }
 
 // Prints what a list left.
-fn print_left(
-    rt: &impl Print,
-    s: State,
-    slots: &[u32],
-    log: &[u32],
-    answers: &[u32],
-) -> io::Result<()> {
+fn print_left(rt: &impl Print, s: State, memory: &Memory, log: &[u32]) -> io::Result<()> {
     print_state(rt, s)?;
-    print_words(rt, b"slots", slots)?;
+    print_words(rt, b"slots", memory.slots)?;
     println!(rt; "log {:08X}", checksum(log.iter().copied()))?;
-    println!(rt; "words {:08X}", checksum(answers.iter().copied()))
+    println!(rt; "words {:08X}", checksum(memory.answers.iter().copied()))
 }
 
 // Prints the answers of a list's presses, and counts them.
@@ -47,7 +41,20 @@ fn print_presses(
     print_list(rt, b"answers", made, |answer| print_answer(rt, answer))
 }
 
-// Makes the presses from the sample's offset, depth and count on, on what a load left.
+// Makes presses from a state on, on what a load left.
+fn press(
+    sheet: &[u8],
+    memory: &mut Memory,
+    log: &mut [u32],
+    loaded: Loaded,
+    s: State,
+    bytes: &[u8],
+) -> Result<State, Refusal> {
+    let method = memory.pool.method(sheet, loaded);
+    presses(&method, memory.slots, log, s, bytes, memory.answers)
+}
+
+// Makes the presses from the sample's offset, depth and count on, and prints what they came to.
 fn press_loaded(
     rt: &impl Print,
     sample: &mut Sample,
@@ -57,34 +64,32 @@ fn press_loaded(
 ) -> io::Result<State> {
     let begin = sample.begin;
     let s = moved(loaded.state, begin.pc, begin.depth, begin.count);
-    let method = memory.pool.method(&sample.sheet, loaded);
-    let slots = &mut memory.slots;
-    let answers = &mut memory.answers;
-    let pressed = presses(&method, slots, &mut sample.log, s, &sample.presses, answers);
+    let bytes = sample.presses;
+    let pressed = press(sample.sheet, memory, sample.log, loaded, s, bytes);
     match pressed {
-        Ok(_) => print_presses(rt, &sample.presses, answers, tally)?,
+        Ok(_) => print_presses(rt, bytes, memory.answers, tally)?,
         Err(refusal) => println!(rt; "presses {}\nanswers -", refusal.number())?,
     }
     let left = pressed.unwrap_or(s);
-    print_left(rt, left, slots, &sample.log, answers)?;
+    print_left(rt, left, memory, sample.log)?;
     Ok(left)
 }
 
 // Loads a sample's sheet, and makes its presses on what the load left; where they begin at the load, a run goes beside them.
-pub(crate) fn make_list<R: Print + AllocGlobal>(
-    rt: &R,
+pub(crate) fn make_list(
+    rt: &impl Print,
     sample: &mut Sample,
+    memory: &mut Memory,
     tally: &mut Tally,
 ) -> io::Result<()> {
-    let mut memory = Memory::junk(rt.alloc(), sample.sizes)?;
-    match memory.pool.load(&sample.sheet, &mut memory.slots) {
+    match memory.pool.load(sample.sheet, memory.slots) {
         Err(refusal) => println!(rt; "sheet {}", refusal.number()),
         Ok(loaded) => {
-            let left = press_loaded(rt, sample, &mut memory, loaded, tally)?;
+            let left = press_loaded(rt, sample, memory, loaded, tally)?;
             if sample.begin != Begin::default() {
                 return Ok(());
             }
-            run_beside(rt, &sample.sheet, &mut memory, left)
+            run_beside(rt, sample.sheet, memory, left)
         }
     }
 }

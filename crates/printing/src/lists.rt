@@ -1,8 +1,12 @@
 // Whole lines: items under a name, and a state.
+ghost use Rattle.std.specs.Prelude.{All, IfOk};
+ghost use Rattle.std.specs.Fn.{FnReturnsAt};
+
 use rules::State;
 use std::io;
 
-// Prints items under a name, each as the closure prints it, or a dash where there are none. The name is any bytes, here and of words: text would ask more of the caller.
+// Prints items under a name, each as the closure prints it, or a dash where there are none; if no write failed, the closure printed each of
+// them. The name is any bytes, here and of words: text would ask more of the caller.
 pub fn print_list<T, F: Fn(&T) -> io::Result<()>>(
     rt: &impl Print,
     name: &[u8],
@@ -10,6 +14,7 @@ pub fn print_list<T, F: Fn(&T) -> io::Result<()>>(
     print_item: F,
 ) -> io::Result<()>
     requires { F.IsAlwaysCallable print_item }
+    ensures { IfOk result (λ _. All (λ item. FnReturnsAt F.Fn print_item item (Ok tt)) items.now) }
 {
     rt.write_all(name)?;
     if items.is_empty() {

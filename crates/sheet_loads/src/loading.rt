@@ -1,27 +1,23 @@
 // A sheet loaded into memory that holds junk.
-use crate::samples::Sizes;
 use printing::checksum;
 use rules::{Loaded, Refusal};
-use std::alloc::{AllocError, Global};
 use std::io;
-use std::iter::successors;
-use walks::Pool;
+use walks::Memory;
 
-// Junk: a first item, and each next one made of the one before it.
-fn junk<T: Drop, F: FnMut(&T) -> Option<T> + Drop>(
-    alloc: Global,
-    first: T,
-    next: F,
-    count: usize,
-) -> Result<Vec<T>, AllocError>
-    requires { (f : _) (item : _) → F.pre f item }
+// Fills with junk: a first item, and each next one made of the one before it.
+fn fill_junk<T: Copy + Drop, F: Fn(T) -> T>(items: &mut [T], first: T, next: F)
+    requires { F.IsAlwaysCallable next }
 {
-    successors(Some(first), next).take(count).collect(alloc)
+    let mut junk = first;
+    for item in items {
+        *item = junk;
+        junk = next(junk);
+    }
 }
 
-// Junk words from a first one on.
-fn junk_words(alloc: Global, first: u32, count: usize) -> Result<Vec<u32>, AllocError> {
-    junk(alloc, first, |word| Some(word.wrapping_add(1)), count)
+// Fills with junk words from a first one on.
+fn fill_words(words: &mut [u32], first: u32) {
+    fill_junk(words, first, |word| word.wrapping_add(1));
 }
 
 // Prints what a load answers: the sizes of the frame, and where the code and the handlers lie, or the refusal.
@@ -47,33 +43,22 @@ fn print_sum<T: Copy + Into<u32>>(rt: &impl Print, name: &str, items: &[T]) -> i
 }
 
 // Loads a sheet into junk, and prints the answer and checksums of what the load left; a refused one has no code and no handlers.
-pub(crate) fn load_and_print<R: Print + AllocGlobal>(
-    rt: &R,
-    sheet: &[u8],
-    sizes: Sizes,
-) -> io::Result<()> {
-    let mut slots = junk_words(rt.alloc(), 0xBEEF_0000, sizes.slots)?;
-    let mut pool = Pool {
-        kinds: junk(
-            rt.alloc(),
-            1u8,
-            |byte| Some(byte.wrapping_add(7)),
-            sizes.kinds,
-        )?,
-        words: junk_words(rt.alloc(), 0xDEAD_0000, sizes.words)?,
-    };
-    let loaded = pool.load(sheet, &mut slots);
+pub(crate) fn load_and_print(rt: &impl Print, sheet: &[u8], memory: &mut Memory) -> io::Result<()> {
+    fill_words(memory.slots, 0xBEEF_0000);
+    fill_junk(memory.pool.kinds, 1, |byte| byte.wrapping_add(7));
+    fill_words(memory.pool.words, 0xDEAD_0000);
+    let loaded = memory.pool.load(sheet, memory.slots);
     print_answer(rt, loaded)?;
-    print_sum(rt, "kinds", &pool.kinds)?;
-    print_sum(rt, "words", &pool.words)?;
-    print_sum(rt, "slots", &slots)?;
+    print_sum(rt, "kinds", memory.pool.kinds)?;
+    print_sum(rt, "words", memory.pool.words)?;
+    print_sum(rt, "slots", memory.slots)?;
     match loaded {
         Err(_) => {
             print_sum::<u8>(rt, "code", &[])?;
             print_sum::<u8>(rt, "handlers", &[])?;
         }
         Ok(loaded) => {
-            let method = pool.method(sheet, loaded);
+            let method = memory.pool.method(sheet, loaded);
             print_sum(rt, "code", method.code)?;
             print_sum(rt, "handlers", method.handlers)?;
         }

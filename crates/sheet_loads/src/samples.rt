@@ -20,14 +20,6 @@ pub(crate) struct Sizes {
 }
 
 impl Sizes {
-    // The most that a sample may have.
-    const MOST: Sizes = Sizes {
-        slots: 300,
-        kinds: 65600,
-        words: 65600,
-        sheet: 66000,
-    };
-
     // The sizes in a head, after the name; by `as`, for `usize` has no `From<u32>`.
     pub(crate) fn of(head: &Head) -> Sizes {
         Sizes {
@@ -36,17 +28,5 @@ impl Sizes {
             words: word_at(head, 48) as usize,
             sheet: word_at(head, 52) as usize,
         }
-    }
-
-    // Whether the sheet is short enough to be read.
-    pub(crate) fn is_read(&self) -> bool {
-        self.sheet <= Self::MOST.sheet
-    }
-
-    // Whether so much memory is lent.
-    pub(crate) fn is_lent(&self) -> bool {
-        self.slots <= Self::MOST.slots
-            && self.kinds <= Self::MOST.kinds
-            && self.words <= Self::MOST.words
     }
 }

@@ -2,20 +2,16 @@
 ghost use Rattle.std.specs.Prelude.{◌<◌};
 
 use reading::digit_value;
-use rules::State;
-use std::alloc::{AllocError, Global};
-use walks::Pool;
+use rules::{Method, State};
 
 // A line, its line feed included.
 pub(crate) type Line = [u8; 496];
 
-// A sample: the parts that are lent, and the state to start from.
-#[derive(Drop)]
-pub(crate) struct Sample {
-    pub code: Vec<u8>,
-    pub pool: Pool,
-    pub handlers: Vec<u8>,
-    pub slots: Vec<u32>,
+// A sample: the method, the slots, and the state to start from.
+#[derive(Clone, Copy)]
+pub(crate) struct Sample<'a> {
+    pub method: Method<'a>,
+    pub slots: &'a [u32],
     pub state: State,
 }
 
@@ -30,42 +26,55 @@ where
     T::try_from(value).unwrap_or_default()
 }
 
-// The first numbers in some columns, of so many columns each.
-fn numbers<T: TryFrom<u64> + Default + Drop>(
-    alloc: Global,
+// The first numbers in some columns, of so many columns each, in the first places of what is lent; no more than it has.
+fn numbers<'a, T: TryFrom<u64> + Default + Drop>(
+    lent: &'a mut [T],
     columns: &[u8],
     width: usize,
     count: usize,
-) -> Result<Vec<T>, AllocError>
+) -> &'a [T]
 where
     T::Error: Drop,
     requires { 0 < width }
 {
-    let mut all = Vec::new(alloc);
-    // no `map`: tried, and its call with a closure over slices gets no proof
-    for item in columns.chunks_exact(width).take(count) {
-        all.push(number(item))?;
+    let count = count.min(lent.len());
+    let all = &mut lent[..count];
+    for (place, item) in all.iter_mut().zip(columns.chunks_exact(width)) {
+        *place = number(item);
     }
-    Ok(all)
+    all
 }
 
-// The sample in a line.
-pub(crate) fn sample_of(alloc: Global, line: &Line) -> Result<Sample, AllocError> {
-    Ok(Sample {
-        code: numbers(alloc, &line[44..172], 2, number(&line[41..43]))?,
-        pool: Pool {
-            kinds: numbers(alloc, &line[175..191], 2, number(&line[173..174]))?,
-            words: numbers(alloc, &line[194..258], 8, number(&line[192..193]))?,
-        },
-        handlers: numbers(alloc, &line[262..342], 2, number(&line[259..261]))?,
-        slots: numbers(alloc, &line[345..441], 8, number(&line[343..344]))?,
-        state: State {
-            max_stack: number(&line[442..446]),
-            max_locals: number(&line[447..451]),
-            pc: number(&line[452..460]),
-            depth: number(&line[461..469]),
-            count: number(&line[470..486]),
-            return_type: number(&line[487..495]),
-        },
-    })
+// The state in a line.
+fn state_of(line: &Line) -> State {
+    State {
+        max_stack: number(&line[442..446]),
+        max_locals: number(&line[447..451]),
+        pc: number(&line[452..460]),
+        depth: number(&line[461..469]),
+        count: number(&line[470..486]),
+        return_type: number(&line[487..495]),
+    }
+}
+
+// The sample in a line, in the memory that is lent for its parts.
+pub(crate) fn sample_of<'a>(
+    line: &Line,
+    code: &'a mut [u8],
+    kinds: &'a mut [u8],
+    words: &'a mut [u32],
+    handlers: &'a mut [u8],
+    slots: &'a mut [u32],
+) -> Sample<'a> {
+    let method = Method {
+        code: numbers(code, &line[44..172], 2, number(&line[41..43])),
+        kinds: numbers(kinds, &line[175..191], 2, number(&line[173..174])),
+        words: numbers(words, &line[194..258], 8, number(&line[192..193])),
+        handlers: numbers(handlers, &line[262..342], 2, number(&line[259..261])),
+    };
+    Sample {
+        method,
+        slots: numbers(slots, &line[345..441], 8, number(&line[343..344])),
+        state: state_of(line),
+    }
 }

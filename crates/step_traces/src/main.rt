@@ -21,15 +21,28 @@ fn print_name(rt: &impl Print, line: &Line) -> io::Result<()> {
     println!(rt)
 }
 
-// Traces each sample.
+// Traces each sample, in memory as long as a line's parts need.
 fn main(rt: HostRuntime) -> io::Result<()> {
+    let mut code = [0; 64];
+    let mut kinds = [0; 8];
+    let mut words = [0; 8];
+    let mut handlers = [0; 40];
+    let mut slots = [0; 12];
     let mut stdin = rt.stdin();
     for _ in 0..MOST {
         let Some(line) = read_record(&mut stdin, b' ')? else {
             break;
         };
         print_name(&rt, &line)?;
-        trace(&rt, &sample_of(rt.alloc(), &line)?)?;
+        let sample = sample_of(
+            &line,
+            &mut code,
+            &mut kinds,
+            &mut words,
+            &mut handlers,
+            &mut slots,
+        );
+        trace(&rt, &sample)?;
         println!(rt)?;
     }
     Ok(())

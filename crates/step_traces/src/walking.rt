@@ -44,21 +44,26 @@ fn print_run(
     print_frame(rt, slots, ran.state)
 }
 
+// The slots of a sample, to be written.
+fn copied<'a>(lent: &'a mut [u32; 12], slots: &[u32]) -> &'a mut [u32] {
+    let count = slots.len().min(12);
+    let copy = &mut lent[..count];
+    for (place, slot) in copy.iter_mut().zip(slots) {
+        *place = *slot;
+    }
+    copy
+}
+
 // Prints what is lent of a sample, its walk, a run, and a run of half the walk, each on slots of its own.
 pub(crate) fn trace(rt: &impl Print, sample: &Sample) -> io::Result<()> {
-    print_bytes(rt, b"code", &sample.code)?;
-    let pool = &sample.pool;
-    print_list(rt, b"kinds", &pool.kinds, |kind| print!(rt; " {kind}"))?;
-    print_words(rt, b"words", &pool.words)?;
-    print_bytes(rt, b"handlers", &sample.handlers)?;
-    let method = Method {
-        code: &sample.code,
-        kinds: &pool.kinds,
-        words: &pool.words,
-        handlers: &sample.handlers,
-    };
+    let method = &sample.method;
+    print_bytes(rt, b"code", method.code)?;
+    print_list(rt, b"kinds", method.kinds, |kind| print!(rt; " {kind}"))?;
+    print_words(rt, b"words", method.words)?;
+    print_bytes(rt, b"handlers", method.handlers)?;
     let s = sample.state;
-    let steps = print_walk(rt, &method, &mut sample.slots.clone()?, s)?;
-    print_run(rt, &method, &mut sample.slots.clone()?, s, BUDGET)?;
-    print_run(rt, &method, &mut sample.slots.clone()?, s, steps / 2)
+    let mut lent = [0; 12];
+    let steps = print_walk(rt, method, copied(&mut lent, sample.slots), s)?;
+    print_run(rt, method, copied(&mut lent, sample.slots), s, BUDGET)?;
+    print_run(rt, method, copied(&mut lent, sample.slots), s, steps / 2)
 }

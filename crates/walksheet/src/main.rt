@@ -9,18 +9,25 @@ use walks::{Memory, walk};
 // The most steps that are walked.
 const MOST: u64 = 1600;
 
-// Reads at most 65,536 bytes, and walks the method of their sheet from what its load left.
-fn main(rt: HostRuntime) -> io::Result<()> {
-    let mut sheet = vec![in rt.alloc(); 0u8; 65536]?;
-    let count = read_full(&mut rt.stdin(), &mut sheet)?;
-    sheet.truncate(count);
-    let mut memory = Memory::zeroed(rt.alloc(), 8192, 4096)?;
-    match memory.pool.load(&sheet, &mut memory.slots) {
+// Loads a sheet, and walks its method from what the load left.
+fn walk_sheet(rt: &impl Print, sheet: &[u8], memory: &mut Memory) -> io::Result<()> {
+    match memory.pool.load(sheet, memory.slots) {
         Err(refusal) => println!(rt; "sheet {}", refusal.number()),
         Ok(loaded) => {
-            let method = memory.pool.method(&sheet, loaded);
-            let walked = walk(&rt, &method, &mut memory.slots, loaded.state, MOST)?;
+            let method = memory.pool.method(sheet, loaded);
+            let walked = walk(rt, &method, memory.slots, loaded.state, MOST)?;
             println!(rt; "{}", Ending(walked.end))
         }
     }
+}
+
+// Reads at most 65,536 bytes, and walks their sheet.
+fn main(rt: HostRuntime) -> io::Result<()> {
+    let mut bytes = [0; 65536];
+    let count = read_full(&mut rt.stdin(), &mut bytes)?;
+    let mut slots = [0; 8192];
+    let mut kinds = [0; 4096];
+    let mut words = [0; 4096];
+    let mut memory = Memory::zeroed(&mut slots, &mut kinds, &mut words);
+    walk_sheet(&rt, &bytes[..count], &mut memory)
 }

@@ -1,0 +1,17 @@
+// What a sample is lent of the memory.
+use crate::samples::Sizes;
+use walks::{Memory, Pool};
+
+// The first slots and entries, as many as a sample wants; none where there are fewer.
+pub(crate) fn lend<'a>(
+    slots: &'a mut [u32],
+    kinds: &'a mut [u8],
+    words: &'a mut [u32],
+    sizes: Sizes,
+) -> Option<Memory<'a>> {
+    let slots = slots.get_mut(..sizes.slots)?;
+    let kinds = kinds.get_mut(..sizes.kinds)?;
+    let words = words.get_mut(..sizes.words)?;
+    let pool = Pool { kinds, words };
+    Some(Memory { slots, pool })
+}
