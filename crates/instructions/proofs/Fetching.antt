@@ -1,20 +1,20 @@
 -- The stages of decoding, on the entry of a row, give what questions 4 and 5 give. Assumes nothing.
-use Prim.Native.Nat.{ℕ, ◌+◌, ◌<◌}
+use Prim.Native.Nat.{ℕ, ◌+◌, ◌*◌, ◌<◌}
 use mathlib.Core.Path.{◌≡◌, refl, sym, ap, ◌∙◌}
 use mathlib.Core.Bool.{Bool, true, false, cond}
-use mathlib.Core.List.{List, []}
+use mathlib.Core.List.{List, [], map}
 use native.Mathlib.Omega.{arith}
 use lib.IntN.{ℤ, pos}
-use lib.Dec.{leb}
+use lib.Dec.{leb, eqb}
 use lib.ListN.{length}
-use borrow.Author.Tests.{lt-ltb}
+use borrow.Author.Tests.{lt-ltb, eq-eqb, ne_eqb}
 use Rattle.std.specs.Option.{ok_or}
 use Rattle.values.specs.Integers.{low}
 use Rattle.rules.specs.Check.{Check, ◌else◌, ◌>>◌, ◌>>=◌}
 use Rattle.rules.specs.Forms.{Row, Operand, Format, alone, implied, byte, short, index, index2, index_const, branch, branch4, table, pairs, widened, length_of}
 use Rattle.rules.specs.Instructions.{row_of}
 use Rattle.rules.specs.Fetch.{Instruction, instruction, operands, u8, u16, s16, widens, wide_opcode, sized, table_check, lookup_check, wide_check, by_format, fetched}
-use Rattle.rules.proofs.Rows.{own_opcode}
+use Rattle.rules.proofs.Rows.{own_opcode, below_256, up_to, agree, is_some}
 use Rattle.rules.proofs.Questions.{of_core, not_core, wide_iinc, wide_local}
 use Rattle.operands.specs.Switch.{switch_of}
 use Rattle.instructions.specs.declared.forms.Entry.{Entry}
@@ -111,19 +111,45 @@ module _ (code : List ℕ) (pc : ℕ) where
       let F : e.format ≡ format_of r.format = ap (λ (x : Entry). x.format) s in
       k r ∙ ap (decoded_by code pc r e) F ∙ by_format_is code pc e r c r.format F ∙ ap decoded (sym (of_core code pc r a)))
 
-  -- ---- WIDE
+-- ---- WIDE
 
+-- what WIDE takes is core, and half as long by itself: computed over all 256
+abbrev wide_length : ℕ → ℕ
+wide_length n = cond (eqb n 132) 6 4
+
+abbrev found_wide : ℕ → (Bool × ℕ)
+found_wide n = cond (widens n) (is_some (row_of n), 2 * length_in (core_entry n).format) (true, 0)
+
+abbrev expected_wide : ℕ → (Bool × ℕ)
+expected_wide n = cond (widens n) (true, wide_length n) (true, 0)
+
+wide_all : map found_wide (up_to 256) ≡ map expected_wide (up_to 256)
+unfolding entry_of row_of
+wide_all = refl
+
+doubled : (n : ℕ) → widens n ≡ true → (r : Row) → row_of n ≡ Some r → 2 * length_in (entry_for r).format ≡ wide_length n
+doubled n allowed r a =
+    let both : ◌≡◌ {A = Bool × ℕ} (is_some (row_of n), 2 * length_in (core_entry n).format) (true, wide_length n) =
+    rw allowed at (agree found_wide expected_wide 256 wide_all n (below_256 n r a)) in
+    ap (λ (x : Entry). 2 * length_in x.format) (sym (core_entry_lem n r a)) ∙ ap (λ (p : Bool × ℕ). p.1) both
+
+module _ (code : List ℕ) (pc : ℕ) where
   module _ (there : pc + 1 < length code) (allowed : widens (wide_opcode code pc) ≡ true) where
     pub no_wide : (x : Refusal) → core_of (wide_opcode code pc) ≡ Err x → Err x ≡ decoded (wide_check code pc)
     unfolding decoded wide_check ◌else◌ ◌>>◌ ◌>>=◌
     no_wide x h = let o = outside (wide_opcode code pc) x h in rw (lt-ltb (pc + 1) (length code) there, allowed, o.0, o.1)
 
     module _ (e : Entry) (found : core_of (wide_opcode code pc) ≡ Ok e) where
-      pub wide_increment : wide_opcode code pc ≡ 132 → sized_of code pc e 6 (u16 code (pc + 2)) (low 32 (s16 code (pc + 4))) ≡ decoded (wide_check code pc)
-      wide_increment h = answered (wide_opcode code pc) _ e found (λ r a c s.
-          sized_is code pc e r c 6 (operands (u16 code (pc + 2)) (s16 code (pc + 4)) []) ∙ ap decoded (sym (wide_iinc code pc there allowed r a h)))
+      -- an instruction of n bytes is of twice the entry's length
+      twice : (n : ℕ) (o : Operand) → wide_length (wide_opcode code pc) ≡ n → ((r : Row) → row_of (wide_opcode code pc) ≡ Some r → wide_check code pc ≡ sized code pc r n o)
+          → sized_of code pc e (2 * length_in e.format) o.index (low 32 o.constant) ≡ decoded (wide_check code pc)
+      twice n o l k = answered (wide_opcode code pc) _ e found (λ r a c s.
+          ap (λ (m : ℕ). sized_of code pc e m o.index (low 32 o.constant)) (ap (λ (x : Entry). 2 * length_in x.format) s ∙ doubled (wide_opcode code pc) allowed r a ∙ l)
+          ∙ sized_is code pc e r c n o ∙ ap decoded (sym (k r a)))
 
-      pub wide_other : (wide_opcode code pc ≡ 132 → ⊥) → sized_of code pc e 4 (u16 code (pc + 2)) 0 ≡ decoded (wide_check code pc)
+      pub wide_increment : wide_opcode code pc ≡ 132 → sized_of code pc e (2 * length_in e.format) (u16 code (pc + 2)) (low 32 (s16 code (pc + 4))) ≡ decoded (wide_check code pc)
+      wide_increment h = twice 6 (operands (u16 code (pc + 2)) (s16 code (pc + 4)) []) (rw (eq-eqb _ 132 h)) (λ r a. wide_iinc code pc there allowed r a h)
+
+      pub wide_other : (wide_opcode code pc ≡ 132 → ⊥) → sized_of code pc e (2 * length_in e.format) (u16 code (pc + 2)) 0 ≡ decoded (wide_check code pc)
       unfolding low
-      wide_other h = answered (wide_opcode code pc) _ e found (λ r a c s.
-          sized_is code pc e r c 4 (operands (u16 code (pc + 2)) (pos 0) []) ∙ ap decoded (sym (wide_local code pc there allowed r a h)))
+      wide_other h = twice 4 (operands (u16 code (pc + 2)) (pos 0) []) (rw (ne_eqb _ 132 h)) (λ r a. wide_local code pc there allowed r a h)

@@ -1,4 +1,2 @@
-pub mod Absent
 pub mod Entries
 pub mod Fetching
-pub mod Numbers

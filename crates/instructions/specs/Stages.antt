@@ -32,6 +32,20 @@ switch_decoded e (Err r) = Err r
 abbrev pub fixed_of : List ℕ → ℕ → Entry → ℕ → ℕ → Check Decoded
 fixed_of code at e index constant = sized_of code at e (length_in e.format) index constant
 
+-- the index that an opcode implies
+abbrev pub implied_in : Format → ℕ
+implied_in (Format.Implied n) = n
+implied_in Format.Alone = 0
+implied_in Format.Byte = 0
+implied_in Format.Short = 0
+implied_in Format.Index = 0
+implied_in Format.Index2 = 0
+implied_in Format.IndexConst = 0
+implied_in Format.Branch4 = 0
+implied_in Format.Table = 0
+implied_in Format.Pairs = 0
+implied_in Format.Widened = 0
+
 -- by the format
 abbrev pub decoded_by : List ℕ → ℕ → Row → Entry → Format → Check Decoded
 decoded_by code at r e Format.Alone = fixed_of code at e 0 0

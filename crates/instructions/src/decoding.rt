@@ -3,7 +3,7 @@ ghost use Rattle.std.specs.Prelude.{◌≡◌, ◌<◌};
 ghost use Rattle.rules.specs.Fetch.{fetched, widens, wide_check};
 ghost use Rattle.rules.specs.Forms.{Row};
 ghost use Rattle.instructions.specs.Decode.{instruction_by, decoded};
-ghost use Rattle.instructions.specs.Stages.{core_of, sized_of, fixed_of, decoded_by};
+ghost use Rattle.instructions.specs.Stages.{core_of, sized_of, fixed_of, implied_in, decoded_by};
 
 use crate::forms::{Entry, Format};
 use crate::opcodes::*;
@@ -83,12 +83,26 @@ impl Instruction<'_> {
         }
     }
 
-    // The instruction, by its format.
+    // The index that the opcode implies; 0 where it implies none.
+    fn implied(self) -> u32
+        ensures { result ≡ implied_in self.entry.entry.format }
+    {
+        match self.entry.format {
+            Format::Implied(index) => u32::from(index),
+            _ => 0,
+        }
+    }
+
+    // The instruction, by its format. Most instructions have no operand bytes: with a test for them first, and not an arm of the match alone, a processor
+    // has a jump by format to foretell where there are operands, and not at each step.
     fn by_format(self) -> Result<Decoded, Refusal>
         ensures { (row : Row) → result ≡ decoded_by self.entry.code.now self.entry.pc row self.entry.entry self.entry.entry.format }
     {
         let code = self.code;
         let at = self.pc as usize + 1;
+        if matches!(self.entry.format, Format::Alone | Format::Implied(_)) {
+            return self.fixed(self.implied(), 0);
+        }
         match self.entry.format {
             Format::Alone => self.fixed(0, 0),
             Format::Implied(index) => self.fixed(u32::from(index), 0),
@@ -108,7 +122,7 @@ impl Instruction<'_> {
     }
 }
 
-// WIDE: an instruction with its operands at twice the size.
+// WIDE: an instruction with its operands at twice the size, and with WIDE itself twice as long.
 fn wide(code: &[u8], pc: u32) -> Result<Decoded, Refusal>
     ensures { result ≡ decoded (wide_check code.now pc) }
 {
@@ -123,10 +137,11 @@ fn wide(code: &[u8], pc: u32) -> Result<Decoded, Refusal>
     let entry = core(opcode)?;
     let instruction = Instruction { code, pc, entry };
     let index = u32::from(read_code_u16(code, at + 2));
+    let size = 2 * usize::from(entry.format.length());
     if opcode == IINC {
-        return instruction.sized(6, index, read_code_i16(code, at + 4));
+        return instruction.sized(size, index, read_code_i16(code, at + 4));
     }
-    instruction.sized(4, index, 0)
+    instruction.sized(size, index, 0)
 }
 
 // The instruction at an offset.

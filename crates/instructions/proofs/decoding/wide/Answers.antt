@@ -29,12 +29,12 @@ pub returns-then-opcode : goal.returns-then-opcode
 returns-then-opcode c =
     let allowed = sym (ap widens c.read_code_u8-opcode.ensures) ∙ sym c.is_widened.ensures ∙ c.if-not-is_widened.false in
     let found = ap core_of (sym c.read_code_u8-opcode.ensures) ∙ sym c.core.ensures ∙ c.in_ok-entry.was in
-    c.sized.ensures ∙ rw (c.from-index.ensures, c.read_code_u16.ensures, c.read_code_i16.ensures)
+    c.sized.ensures ∙ rw (c.from-size.ensures, c.length.ensures, c.from-index.ensures, c.read_code_u16.ensures, c.read_code_i16.ensures)
     (wide_increment c.args.code.now c.args.pc c.if-code-at.false allowed _ found (sym c.read_code_u8-opcode.ensures ∙ c.if-opcode.true))
 
 pub returns : goal.returns
 returns c =
     let allowed = sym (ap widens c.read_code_u8-opcode.ensures) ∙ sym c.is_widened.ensures ∙ c.if-not-is_widened.false in
     let found = ap core_of (sym c.read_code_u8-opcode.ensures) ∙ sym c.core.ensures ∙ c.in_ok-entry.was in
-    c.sized-2.ensures ∙ rw (c.from-index.ensures, c.read_code_u16.ensures)
+    c.sized-2.ensures ∙ rw (c.from-size.ensures, c.length.ensures, c.from-index.ensures, c.read_code_u16.ensures)
     (wide_other c.args.code.now c.args.pc c.if-code-at.false allowed _ found (λ z. c.if-opcode.false (c.read_code_u8-opcode.ensures ∙ z)))
