@@ -40,11 +40,14 @@ impl<'a> Cursor<'a> {
     fn element(self) -> Option<Cursor<'a>>
         ensures { EndsAt self.entry.descriptor.now (element_end self.entry.descriptor.now self.entry.at) result }
     {
-        match self.byte() {
-            CLASS => self.next().class_name(),
-            first if is_base(first) => Some(self.next()),
-            _ => None,
+        let first = self.byte();
+        if is_base(first) {
+            return Some(self.next());
         }
+        if first == CLASS {
+            return self.next().class_name();
+        }
+        None
     }
 
     // After the field type that begins here, if one does.

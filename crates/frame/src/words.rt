@@ -23,9 +23,12 @@ fn write_several(target: &mut [u32], at: usize, u: Update)
         target[at + 1] = u.words.w1;
         return;
     }
-    let w = u.words;
-    let words = [w.w0, w.w1, w.w2, w.w3, w.w4, w.w5];
-    write_words(target, at, &words[..u.many as usize]);
+    // where none is written, as by a branch, there is no call of a copy of no words
+    if u.many > 0 {
+        let w = u.words;
+        let words = [w.w0, w.w1, w.w2, w.w3, w.w4, w.w5];
+        write_words(target, at, &words[..u.many as usize]);
+    }
 }
 
 // The words that an update has, written from an index on. Most updates have one, and few more than two: by the slice alone it was tried, and a step

@@ -28,7 +28,7 @@ chunk_at m (suc c) (suc k) xs d h =
 
 pub entry_read : (log : List ℕ) (n : ℕ) (entries : List (List ℕ)) (e : Entry) → entries ≡ first_chunks 10 (length log / 10) log → n < length log / 10
     → (words : List ℕ) → words ≡ get_or entries n words
-    → e.pc ≡ get_or words 0 0 → e.depth ≡ get_or words 1 0 → e.first ≡ get_or words 2 0 → e.many ≡ get_or words 3 0 → e.old.now ≡ take 6 (drop 4 words) → IsEntry e log (entry_at n)
+    → e.pc ≡ get_or words 0 0 → e.depth ≡ get_or words 1 0 → e.first ≡ get_or words 2 0 → e.many ≡ get_or words 3 0 → e.old ≡ take 6 (drop 4 words) → IsEntry e log (entry_at n)
 entry_read log n entries e chunks h words at pc depth first many old =
     let chunk : words ≡ take 10 (drop (10 * n) log) = at ∙ rw chunks (chunk_at 10 (length log / 10) n log words h) in
     let word : (i : ℕ) → i < 10 → get_or words i 0 ≡ get_or log (10 * n + i) 0 = λ i below. rw chunk (get_or-take 10 (drop (10 * n) log) i 0 below ∙ get_or-drop (10 * n) log i 0) in
@@ -62,7 +62,7 @@ recorded slots log at pc depth first many old few fits h =
 
 module _ (log : List ℕ) (k : ℕ) (e : Entry) (is : IsEntry e log k) where
   -- it has as many old words as places, where these are at most six
-  pub old_many : e.many ≤ 6 → e.many ≤ length e.old.now
+  pub old_many : e.many ≤ 6 → e.many ≤ length e.old
   old_many h = rw (is.old, length-take-le 6 (drop (k + 4) log) (omega (arith, is.whole, length-drop (k + 4) log))) h
 
   -- ---- whether it is sound

@@ -18,7 +18,7 @@ pub record IsEntry (e : Entry) (log : List ℕ) (k : ℕ) : Type 0 where
   pub depth : e.depth ≡ get_or log (k + 1) 0
   pub first : e.first ≡ get_or log (k + 2) 0
   pub many : e.many ≡ get_or log (k + 3) 0
-  pub old : e.old.now ≡ take 6 (drop (k + 4) log)
+  pub old : e.old ≡ take 6 (drop (k + 4) log)
 
 abbrev pub EntryAt : Option Entry → List ℕ → ℕ → Type 0
 EntryAt (Some e) log k = IsEntry e log k

@@ -11,12 +11,7 @@ use rules::{Halt, Method, Refusal, State};
 
 // The questions of back, whatever the handlers are: 1 to 3, then whether there is a step to take back, and whether its entry stands in the log and is sound. It gives the
 // entry.
-fn check_back<'a>(
-    method: &Method,
-    slots: &[u32],
-    log: &'a [u32],
-    s: State,
-) -> Result<Entry<'a>, Refusal>
+fn check_back(method: &Method, slots: &[u32], log: &[u32], s: State) -> Result<Entry, Refusal>
     ensures asked { (handlers : List ℕ) → asked result ≡ back_check (with_handlers handlers (lent method.now)) s slots.now log.now }
     ensures is_entry { (e : Entry) → result ≡ Ok e → IsEntry e log.now (entry_at (s.count - 1)) }
 {

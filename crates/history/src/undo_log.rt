@@ -1,6 +1,6 @@
 // The undo log: an entry of ten words for each step that can be taken back.
 // `as usize` for a u32 or a u64: `usize` has no `From` of either.
-ghost use Rattle.std.specs.Prelude.{ℕ, List, ◌≡◌, ◌+◌, ◌-◌, ◌/◌, ◌≤◌, ◌<◌, length};
+ghost use Rattle.std.specs.Prelude.{ℕ, List, ◌≡◌, ◌+◌, ◌-◌, ◌/◌, ◌≤◌, ◌<◌, length, take, drop};
 ghost use Rattle.std.proofs.Math.Seq.{paste};
 ghost use Rattle.rules.specs.Check.{is_passed};
 ghost use Rattle.rules.specs.History.{entry_at, undo_record, entry_check, restored};
@@ -36,16 +36,24 @@ pub(crate) fn write_entry(slots: &[u32], log: &mut [u32], s: State, u: Update)
 
 // An entry: where a step began, the places that it wrote, and six words, of which the first are the old ones of those places.
 #[derive(Clone, Copy)]
-pub(crate) struct Entry<'a> {
+pub(crate) struct Entry {
     pc: u32,
     depth: u32,
     first: u32,
     many: u32,
-    old: &'a [u32],
+    old: [u32; 6],
+}
+
+// The six words of an entry after its first four.
+fn old_words(entry: &[u32]) -> [u32; 6]
+    requires { 10 ≤ length entry.now }
+    ensures { result ≡ take 6 (drop 4 entry.now) }
+{
+    *entry[4..].first_chunk().unwrap()
 }
 
 // The entry at an index, if the log has all its words.
-pub(crate) fn read_entry(log: &[u32], n: u64) -> Option<Entry<'_>>
+pub(crate) fn read_entry(log: &[u32], n: u64) -> Option<Entry>
     ensures { EntryAt result log.now (entry_at n) }
 {
     let (entries, _) = log.as_chunks::<ENTRY>();
@@ -56,14 +64,14 @@ pub(crate) fn read_entry(log: &[u32], n: u64) -> Option<Entry<'_>>
         depth,
         first,
         many,
-        old: &entry[4..],
+        old: old_words(entry),
     })
 }
 
-impl Entry<'_> {
+impl Entry {
     // Whether it has its offset in the code, its depth at most max_stack, and at most six places, all in the frame.
     pub(crate) fn is_sound(self, code: &[u8], s: State) -> bool
-        ensures { (log : List ℕ) (k : ℕ) → IsEntry self.entry log k → result ≡ is_passed (entry_check code.now s log k) }
+        ensures { (log : List ℕ) (k : ℕ) → IsEntry self log k → result ≡ is_passed (entry_check code.now s log k) }
     {
         if code.len() <= self.pc as usize || self.depth > u32::from(s.max_stack) || self.many > 6 {
             return false;
@@ -75,9 +83,9 @@ impl Entry<'_> {
     // Takes the last step back. Where it has no places its first place is not looked at.
     pub(crate) fn restore(self, slots: &mut [u32], s: State) -> State
         requires count_nonzero { 0 < s.count }
-        requires count_bound { self.many ≤ length self.old.now }
+        requires count_bound { self.many ≤ length self.old }
         requires count_in_bounds { 0 < self.many → self.first + self.many ≤ length slots.old }
-        ensures { (log : List ℕ) → IsEntry self.entry log (entry_at (s.count - 1)) → taken_back result slots.new log ≡ restored s slots.old log (entry_at (s.count - 1)) }
+        ensures { (log : List ℕ) → IsEntry self log (entry_at (s.count - 1)) → taken_back result slots.new log ≡ restored s slots.old log (entry_at (s.count - 1)) }
     {
         if self.many > 0 {
             let first = self.first as usize;

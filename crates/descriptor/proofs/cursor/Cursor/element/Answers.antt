@@ -6,17 +6,17 @@ use Rattle.rules.specs.Descriptor.{class_type, element_end}
 use Rattle.rules.proofs.Fields.{base_element, class_element}
 use Rattle.descriptor.proofs.cursor.Cursor.element.Goals as goal
 
-pub returns-in-76 : goal.returns-in-76
-returns-in-76 c = let s = c.args.self in
-    rw (class_element s.descriptor.now s.at (sym c.byte.ensures ∙ c.in-76.is)) (rw (c.next.ensures.same, c.next.ensures.after) at c.class_name.ensures)
+pub returns-then-is_base : goal.returns-then-is_base
+returns-then-is_base c = let s = c.args.self in
+    let base = base_element s.descriptor.now s.at (sym (rw c.byte-first.ensures at c.is_base.ensures) ∙ c.if-is_base.true) in
+    record { same = c.next.ensures.same; there = c.next.ensures.after ∙ sym base; begun = rw base (omega arith) }
 
-pub returns-in_default : goal.returns-in_default
-returns-in_default c = let s = c.args.self in
-    let base = base_element s.descriptor.now s.at (sym (rw c.byte.ensures at c.is_base.ensures) ∙ c.if-is_base.true) in
-    record { same = c.next-in_default.ensures.same; there = c.next-in_default.ensures.after ∙ sym base; begun = rw base (omega arith) }
+pub returns-then-first-eq-CLASS : goal.returns-then-first-eq-CLASS
+returns-then-first-eq-CLASS c = let s = c.args.self in
+    rw (class_element s.descriptor.now s.at (sym c.byte-first.ensures ∙ c.if-first-eq-CLASS.true)) (rw (c.next-then-first-eq-CLASS.ensures.same, c.next-then-first-eq-CLASS.ensures.after) at c.class_name.ensures)
 
-pub returns-in_default-2 : goal.returns-in_default-2
+pub returns : goal.returns
 unfolding element_end
-returns-in_default-2 c = let s = c.args.self in
-    let e = c.byte.ensures in
-    rw (sym (rw c.byte.ensures at c.is_base.ensures) ∙ c.if-is_base.false, ne_eqb (u8 s.descriptor.now s.at) class_type (λ f. omega arith))
+returns c = let s = c.args.self in
+    let e = c.byte-first.ensures in
+    rw (sym (rw e at c.is_base.ensures) ∙ c.if-is_base.false, ne_eqb (u8 s.descriptor.now s.at) class_type (λ f. omega arith))
