@@ -104,6 +104,7 @@ impl Instruction<'_> {
             return self.fixed(self.implied(), 0);
         }
         match self.entry.format {
+            // these two are not reached; the match asks for them
             Format::Alone => self.fixed(0, 0),
             Format::Implied(index) => self.fixed(u32::from(index), 0),
             Format::Byte => self.fixed(0, read_code_i8(code, at)),

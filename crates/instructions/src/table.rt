@@ -192,7 +192,7 @@ static TABLE: [Option<Entry>; 256] = [
     row!(Short, IF_ACMPEQ, 0, 2, 0), // if_acmpeq
     row!(Short, IF_ACMPNE, 0, 2, 0), // if_acmpne
     row!(Short, GOTO, 0, 0, 0), // goto
-    // 168 to 169
+    // 168 and 169
     None,
     None,
     row!(Table, TABLESWITCH, 0, 1, 0), // tableswitch
@@ -223,7 +223,7 @@ static TABLE: [Option<Entry>; 256] = [
     None,
     None,
     row!(Widened, WIDE, 0, 0, 0), // wide
-    // 197 to 197
+    // 197
     None,
     row!(Short, IFNULL, 0, 1, 0), // ifnull
     row!(Short, IFNONNULL, 0, 1, 0), // ifnonnull

@@ -5,8 +5,8 @@ ghost use Rattle.std.specs.Fn.{FnReturnsAt};
 use rules::State;
 use std::io;
 
-// Prints items under a name, each as the closure prints it, or a dash where there are none; if no write failed, the closure printed each of
-// them. The name is any bytes, here and of words: text would ask more of the caller.
+// Prints items under a name, each as the closure prints it, or a dash where there are none; where it gives Ok, the closure's answer for each of
+// them is Ok. The name is any bytes, here and of words: text would ask more of the caller.
 pub fn print_list<T, F: Fn(&T) -> io::Result<()>>(
     rt: &impl Print,
     name: &[u8],
