@@ -40,6 +40,7 @@ impl<'a> Cursor<'a> {
     fn element(self) -> Option<Cursor<'a>>
         ensures { EndsAt self.entry.descriptor.now (element_end self.entry.descriptor.now self.entry.at) result }
     {
+        // not a match: with base types tested first a load of many parameters takes fewer machine instructions
         let first = self.byte();
         if is_base(first) {
             return Some(self.next());

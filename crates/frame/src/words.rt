@@ -23,7 +23,7 @@ fn write_several(target: &mut [u32], at: usize, u: Update)
         target[at + 1] = u.words.w1;
         return;
     }
-    // where none is written, as by a branch, there is no call of a copy of no words
+    // a branch writes none: a copy of no words would be a call at each
     if u.many > 0 {
         let w = u.words;
         let words = [w.w0, w.w1, w.w2, w.w3, w.w4, w.w5];

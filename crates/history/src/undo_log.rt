@@ -34,7 +34,8 @@ pub(crate) fn write_entry(slots: &[u32], log: &mut [u32], s: State, u: Update)
     write_words(log, at, &entry);
 }
 
-// An entry: where a step began, the places that it wrote, and six words, of which the first are the old ones of those places.
+// An entry: where a step began, the places that it wrote, and six words, of which the first are the old ones of those places. They are an array of its own:
+// copied to the slots from a part of the log they would ask C for memmove.
 #[derive(Clone, Copy)]
 pub(crate) struct Entry {
     pc: u32,

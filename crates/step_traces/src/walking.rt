@@ -46,7 +46,7 @@ fn print_run(
 
 // The slots of a sample, to be written.
 fn copied<'a>(lent: &'a mut [u32; 12], slots: &[u32]) -> &'a mut [u32] {
-    let count = slots.len().min(12);
+    let count = slots.len().min(lent.len());
     let copy = &mut lent[..count];
     for (place, slot) in copy.iter_mut().zip(slots) {
         *place = *slot;
