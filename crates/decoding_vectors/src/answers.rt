@@ -4,7 +4,7 @@ use instructions::opcodes::*;
 use instructions::{Entry, decode, entry};
 use operands::{lookup_offset, read_code_u8, table_offset};
 use rules::{Method, Refusal};
-use walks::Pool;
+use walks::LentPool;
 
 // Three numbers, 0 where there is none, or a refusal.
 pub(crate) type Answer = Result<[u64; 3], Refusal>;
@@ -43,7 +43,7 @@ pub(crate) fn branch(code: &[u8], pc: u32, key: u32) -> Option<Answer> {
 }
 
 // The words of the constant at an index of a pool, for an opcode that loads one; none for any other.
-pub(crate) fn constant(pool: &Pool, index: u32, opcode: u32) -> Option<Answer> {
+pub(crate) fn constant(pool: &LentPool, index: u32, opcode: u32) -> Option<Answer> {
     let width = match u8::try_from(opcode) {
         Ok(LDC) => Width::One,
         Ok(LDC2_W) => Width::Two,

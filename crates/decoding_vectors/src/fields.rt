@@ -2,7 +2,7 @@
 ghost use Rattle.std.specs.Prelude.{◌≤◌};
 
 use reading::{digit_value, hexadecimal};
-use walks::Pool;
+use walks::LentPool;
 
 // A line, its line feed included.
 pub(crate) type Line = [u8; 187];
@@ -80,7 +80,7 @@ pub(crate) fn pool_of<'a>(
     words: &'a mut [u32],
     line: &Line,
     count: u8,
-) -> Option<Pool<'a>> {
+) -> Option<LentPool<'a>> {
     let (entries, _) = entries(line, count, CONSTANT)?.as_chunks::<CONSTANT>();
     let kinds = kinds.get_mut(..entries.len())?;
     let words = words.get_mut(..entries.len())?;
@@ -90,5 +90,5 @@ pub(crate) fn pool_of<'a>(
     for (word, columns) in words.iter_mut().zip(entries) {
         *word = number(&columns[BYTE..])?;
     }
-    Some(Pool { kinds, words })
+    Some(LentPool { kinds, words })
 }

@@ -6,9 +6,9 @@ mod ends;
 
 use crate::ends::print_line;
 use interpreter::run;
-use reading::{read_bytes, read_record};
+use reading::{read_bytes_into, read_record};
 use std::io;
-use walks::Memory;
+use walks::LentMemory;
 
 // More methods than any file has, and more steps than any that ends takes.
 const MOST: u64 = 1_000_000;
@@ -16,7 +16,7 @@ const MOST: u64 = 1_000_000;
 const BUDGET: u64 = 10_000_000;
 
 // Loads a sheet, and runs its method; the bits of a NaN are shown only if they are asked for.
-fn trial(rt: &impl Print, sheet: &[u8], memory: &mut Memory, bits: bool) -> io::Result<()> {
+fn trial(rt: &impl Print, sheet: &[u8], memory: &mut LentMemory, bits: bool) -> io::Result<()> {
     match memory.pool.load(sheet, memory.slots) {
         Err(refusal) => println!(rt; "sheet {}", refusal.number()),
         Ok(loaded) => {
@@ -45,8 +45,8 @@ fn main(rt: HostRuntime) -> io::Result<()> {
         if length > bytes.len() {
             continue;
         }
-        let sheet = read_bytes(&mut stdin, &mut bytes[..length])?;
-        let mut memory = Memory::zeroed(&mut slots, &mut kinds, &mut words);
+        let sheet = read_bytes_into(&mut stdin, &mut bytes[..length])?;
+        let mut memory = LentMemory::zeroed(&mut slots, &mut kinds, &mut words);
         trial(&rt, sheet, &mut memory, bits > 0)?;
     }
     Ok(())

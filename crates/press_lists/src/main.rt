@@ -14,7 +14,7 @@ use crate::tally::Tally;
 use crate::walking::make_list;
 use reading::read_record;
 use std::io;
-use walks::Pool;
+use walks::LentPool;
 
 // More samples than any file has: the loop over them has to end.
 const MOST: u64 = 100_000;
@@ -38,7 +38,7 @@ fn main(rt: HostRuntime) -> io::Result<()> {
         rt.write_all(name_of(&head))?;
         println!(&rt)?;
         let mut sample = read_sample(&mut stdin, &head, &mut sheet, &mut log, &mut presses)?;
-        let pool = Pool {
+        let pool = LentPool {
             kinds: &mut kinds,
             words: &mut words,
         };

@@ -1,13 +1,13 @@
 // What is lent beside a sample's log.
 use crate::samples::Sizes;
-use walks::Pool;
+use walks::LentPool;
 
 // Slots for the list and for a run beside it, a constant pool, and the words of the answers.
 #[derive(Drop)]
 pub(crate) struct Memory<'a> {
     pub slots: &'a mut [u32],
     pub others: &'a mut [u32],
-    pub pool: Pool<'a>,
+    pub pool: LentPool<'a>,
     pub answers: &'a mut [u32],
 }
 
@@ -17,7 +17,7 @@ impl<'a> Memory<'a> {
         let Memory {
             slots,
             others,
-            pool: Pool { kinds, words },
+            pool: LentPool { kinds, words },
             answers,
         } = self;
         let slots = slots.get_mut(..sizes.slots)?;
@@ -28,7 +28,7 @@ impl<'a> Memory<'a> {
         slots.fill(0xBEEF_BEEF);
         others.fill(0xBEEF_BEEF);
         answers.fill(0xFACE_FACE);
-        let pool = Pool::filled(kinds, words, 0xAB, 0xDEAD_DEAD);
+        let pool = LentPool::filled(kinds, words, 0xAB, 0xDEAD_DEAD);
         Some(Memory {
             slots,
             others,

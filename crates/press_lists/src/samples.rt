@@ -1,6 +1,6 @@
 // The samples on standard input: a head of 80 bytes, then the sheet, the log's words and the presses.
 use integers::join_words;
-use reading::{read_bytes, word_at};
+use reading::{read_bytes_into, word_at};
 use std::io;
 use std::io::Read;
 
@@ -85,7 +85,7 @@ impl Sample<'_, '_> {
 // So many bytes; none of a part that is too long.
 fn read_part<'a>(stdin: &mut impl Read, bytes: &'a mut [u8], count: usize) -> io::Result<&'a [u8]> {
     let count = if count <= bytes.len() { count } else { 0 };
-    read_bytes(stdin, &mut bytes[..count])
+    read_bytes_into(stdin, &mut bytes[..count])
 }
 
 // The words of a log, four bytes each, the high ones first; only the first ones of a log that is too long. They are read 64 at a time.
@@ -99,7 +99,7 @@ fn read_log<'a>(
     for words in log.chunks_mut(64) {
         let mut bytes = [0; 256];
         let (bytes, _) = bytes.split_at_mut(4 * words.len());
-        let (parts, _) = read_bytes(stdin, bytes)?.as_chunks::<4>();
+        let (parts, _) = read_bytes_into(stdin, bytes)?.as_chunks::<4>();
         for (word, part) in words.iter_mut().zip(parts) {
             *word = u32::from_be_bytes(*part);
         }

@@ -8,7 +8,7 @@ ghost use Rattle.std.specs.Io.KnownBytes.{Consumes, IsAtEnd};
 ghost use Rattle.std.specs.Prelude.{◌<◌, ◌≤◌, IfOk, length, take};
 
 pub use digits::{digit_value, hexadecimal, word_at};
-pub use records::{read_bytes, read_record};
+pub use records::{read_bytes, read_bytes_into, read_record};
 use std::io;
 use std::io::Read;
 

@@ -2,7 +2,7 @@
 use printing::checksum;
 use rules::{Loaded, Refusal};
 use std::io;
-use walks::Memory;
+use walks::LentMemory;
 
 // Fills with junk: a first item, and each next one made of the one before it.
 fn fill_junk<T: Copy + Drop, F: Fn(T) -> T>(items: &mut [T], first: T, next: F)
@@ -43,7 +43,11 @@ fn print_sum<T: Copy + Into<u32>>(rt: &impl Print, name: &str, items: &[T]) -> i
 }
 
 // Loads a sheet into junk, and prints the answer and checksums of what the load left; a refused one has no code and no handlers.
-pub(crate) fn load_and_print(rt: &impl Print, sheet: &[u8], memory: &mut Memory) -> io::Result<()> {
+pub(crate) fn load_and_print(
+    rt: &impl Print,
+    sheet: &[u8],
+    memory: &mut LentMemory,
+) -> io::Result<()> {
     fill_words(memory.slots, 0xBEEF_0000);
     fill_junk(memory.pool.kinds, 1, |byte| byte.wrapping_add(7));
     fill_words(memory.pool.words, 0xDEAD_0000);

@@ -9,7 +9,7 @@ mod samples;
 use crate::lending::lend;
 use crate::loading::load_and_print;
 use crate::samples::{Sizes, name_of};
-use reading::{read_bytes, read_record};
+use reading::{read_bytes_into, read_record};
 use std::io;
 
 // More samples than any file has: the loop over them has to end.
@@ -31,7 +31,7 @@ fn main(rt: HostRuntime) -> io::Result<()> {
         if sizes.sheet > bytes.len() {
             continue;
         }
-        let sheet = read_bytes(&mut stdin, &mut bytes[..sizes.sheet])?;
+        let sheet = read_bytes_into(&mut stdin, &mut bytes[..sizes.sheet])?;
         if let Some(mut memory) = lend(&mut slots, &mut kinds, &mut words, sizes) {
             load_and_print(&rt, sheet, &mut memory)?;
         }

@@ -1,25 +1,27 @@
-// The memory that a sheet is loaded into.
-ghost use Rattle.std.specs.Prelude.{◌≡◌, length, replicate};
+// The memory that a sheet is loaded into, allocated.
+ghost use Rattle.std.specs.Prelude.{◌≡◌, IfOk, replicate};
 
 use crate::Pool;
+use std::alloc::{AllocError, Global};
 
-// Slots, and a constant pool, as a program lends them.
+// Slots, and a constant pool.
 #[derive(Drop)]
-pub struct Memory<'a> {
-    pub slots: &'a mut [u32],
-    pub pool: Pool<'a>,
+pub struct Memory {
+    pub slots: Vec<u32>,
+    pub pool: Pool,
 }
 
-impl<'a> Memory<'a> {
-    // All that is lent, 0 in each place.
-    pub fn zeroed(slots: &'a mut [u32], kinds: &'a mut [u8], words: &'a mut [u32]) -> Memory<'a>
-        ensures slots { result.slots.now ≡ replicate (length slots.old) 0 }
-        ensures kinds { result.pool.kinds.now ≡ replicate (length kinds.old) 0 }
-        ensures words { result.pool.words.now ≡ replicate (length words.old) 0 }
+impl Memory {
+    // So many slots, and a pool of so many entries, all of them 0.
+    pub fn zeroed(alloc: Global, slots: usize, entries: usize) -> Result<Memory, AllocError>
+        ensures slots { IfOk result (λ memory. memory.slots.items ≡ replicate slots 0) }
+        ensures kinds { IfOk result (λ memory. memory.pool.kinds.items ≡ replicate entries 0) }
+        ensures words { IfOk result (λ memory. memory.pool.words.items ≡ replicate entries 0) }
     {
-        slots.fill(0);
-        let pool = Pool::filled(kinds, words, 0, 0);
-        Memory { slots, pool }
+        Ok(Memory {
+            slots: vec![in alloc; 0; slots]?,
+            pool: Pool::filled(alloc, entries, 0, 0)?,
+        })
     }
 }
 
@@ -30,13 +32,10 @@ mod tests {
 
     #[test]
     fn makes_zeroed_memory(rt: HostRuntime) -> Result<(), Fail> {
-        let mut slots = [1; 2];
-        let mut kinds = [1; 3];
-        let mut words = [1; 3];
-        let Memory { slots, pool } = Memory::zeroed(&mut slots, &mut kinds, &mut words);
-        assert_eq!(rt; &*slots, [0, 0].as_slice());
-        assert_eq!(rt; &*pool.kinds, [0, 0, 0].as_slice());
-        assert_eq!(rt; &*pool.words, [0, 0, 0].as_slice());
+        let memory = Memory::zeroed(rt.alloc(), 2, 3)?;
+        assert_eq!(rt; memory.slots.as_slice(), [0, 0].as_slice());
+        assert_eq!(rt; memory.pool.kinds.as_slice(), [0, 0, 0].as_slice());
+        assert_eq!(rt; memory.pool.words.as_slice(), [0, 0, 0].as_slice());
         Ok(())
     }
 }

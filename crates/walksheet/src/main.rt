@@ -4,13 +4,13 @@
 use printing::Ending;
 use reading::read_full;
 use std::io;
-use walks::{Memory, walk};
+use walks::{LentMemory, walk};
 
 // The most steps that are walked.
 const MOST: u64 = 1600;
 
 // Loads a sheet, and walks its method from what the load left.
-fn walk_sheet(rt: &impl Print, sheet: &[u8], memory: &mut Memory) -> io::Result<()> {
+fn walk_sheet(rt: &impl Print, sheet: &[u8], memory: &mut LentMemory) -> io::Result<()> {
     match memory.pool.load(sheet, memory.slots) {
         Err(refusal) => println!(rt; "sheet {}", refusal.number()),
         Ok(loaded) => {
@@ -28,6 +28,6 @@ fn main(rt: HostRuntime) -> io::Result<()> {
     let mut slots = [0; 8192];
     let mut kinds = [0; 4096];
     let mut words = [0; 4096];
-    let mut memory = Memory::zeroed(&mut slots, &mut kinds, &mut words);
+    let mut memory = LentMemory::zeroed(&mut slots, &mut kinds, &mut words);
     walk_sheet(&rt, &bytes[..count], &mut memory)
 }
