@@ -1,4 +1,4 @@
-// What the programs share that load sheets, and walk and run their methods.
+// What the programs share that load sheets, and walk and run their methods: LentMemory, LentPool and walk. Memory and Pool are for callers with an allocator.
 #![tactic(auto)]
 
 mod lent_memory;

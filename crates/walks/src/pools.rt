@@ -1,4 +1,5 @@
-// The constant pool that a load fills, allocated. Its functions do not call those of LentPool, which say nothing of what was lent once the loan is over.
+// The constant pool that a load fills, allocated. `filled` and `load` do not call those of LentPool, which say nothing of what was lent once the loan is over;
+// `method` cannot, since a shared pool has no entries to lend for writing.
 use rules::{Loaded, Method, Refusal};
 use sheet::{code_of, handlers_of, load};
 use std::alloc::{AllocError, Global};
